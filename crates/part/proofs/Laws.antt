@@ -1,0 +1,65 @@
+-- Laws of the part: the soundness test says what the record says, both named parts are sound, and how many blocks can be protected.
+use mathlib.Core.Bool.{Bool, true, false, _&&_}
+use mathlib.Core.Logic.{_↔_}
+use mathlib.Core.Path.{_≡_, refl}
+use Prim.Native.Nat.{ℕ, _-_, _/_, _^_, _≤_}
+use native.Mathlib.Nat.{div-le-self}
+use native.Mathlib.Omega.{arith}
+use lib.Dec.{T, leb, eqb, leb→le}
+use borrow.Author.Tests.{le-leb}
+use Rattle.part.specs.Choice.{if_then_else_}
+use Rattle.part.specs.Part.{page, rows, Sound, soundPart, bench, fm25s005bi3}
+use Rattle.part.specs.Protection.{guarded}
+use Rattle.part.specs.declared.Geometry.{Geometry}
+use Rattle.part.proofs.Choice.{cond-keep, and-l, and-r}
+
+-- no more blocks are protected than there are
+pub guarded-few : (g : Geometry) (b : ℕ) → guarded g b ≤ g .blocks
+guarded-few g b = cond-keep (λ (q : ℕ). q ≤ g .blocks) (eqb b 0) (λ e. omega arith) (λ e. div-le-self (g .blocks) (2 ^ (7 - b)))
+
+-- six tests hold together exactly when each does
+six : (a b c d e f : Bool) → T (a && b && c && d && e && f) → T a × T b × T c × T d × T e × T f
+six a b c d e f t =
+    let t₅ = and-l (a && b && c && d && e) f t in
+    let t₄ = and-l (a && b && c && d) e t₅ in
+    let t₃ = and-l (a && b && c) d t₄ in
+    let t₂ = and-l (a && b) c t₃ in
+    (and-l a b t₂, and-r a b t₂, and-r (a && b) c t₃, and-r (a && b && c) d t₄, and-r (a && b && c && d) e t₅, and-r (a && b && c && d && e) f t)
+
+-- the test of soundness says exactly what document 01's rule says
+pub sound-exactly : (g : Geometry) → T (soundPart g) ↔ Sound g
+unfolding soundPart
+sound-exactly g = (in-words, as-test)
+  where
+    in-words : T (soundPart g) → Sound g
+    in-words t =
+        let h = six (leb 1 (g .main)) (leb (page g) 4096) (leb 1 (g .pages)) (leb (g .pages) 256) (leb 1 (g .blocks)) (leb (rows g) 65536) t in
+        record {
+          some-bytes = leb→le 1 (g .main) (h .0);
+          small-page = leb→le (page g) 4096 (h .1);
+          some-pages = leb→le 1 (g .pages) (h .2);
+          few-pages = leb→le (g .pages) 256 (h .3);
+          some-blocks = leb→le 1 (g .blocks) (h .4);
+          few-rows = leb→le (rows g) 65536 (h .5);
+        }
+
+    as-test : Sound g → T (soundPart g)
+    as-test s =
+        rw (
+          le-leb 1 (g .main) (s .some-bytes),
+          le-leb (page g) 4096 (s .small-page),
+          le-leb 1 (g .pages) (s .some-pages),
+          le-leb (g .pages) 256 (s .few-pages),
+          le-leb 1 (g .blocks) (s .some-blocks),
+          le-leb (rows g) 65536 (s .few-rows),
+        )
+        tt
+
+-- both named parts are sound
+pub fm25s005bi3-sound : Sound fm25s005bi3
+unfolding soundPart
+fm25s005bi3-sound = sound-exactly fm25s005bi3 .0 tt
+
+pub bench-sound : Sound bench
+unfolding soundPart
+bench-sound = sound-exactly bench .0 tt

@@ -1,0 +1,4 @@
+pub mod Choice
+pub mod Part
+pub mod Protection
+pub mod OneAnswer

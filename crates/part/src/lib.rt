@@ -1,0 +1,175 @@
+// The part: its geometry and when that is sound, the row and the column address, and which blocks are protected.
+// Document 01, "The article" and "Protection".
+ghost use mathlib.Core.Path.{_≡_};
+ghost use Rattle.part.specs.Part.{page, rows, soundPart, place, block, fm25s005bi3, bench};
+ghost use Rattle.part.specs.Protection.{bp, guarded, protects};
+
+// D, S, K, N and the two identity bytes. Every number of 32 bits can be handed in, so each unsound geometry can be said;
+// D + S and K times N, the sums and products that the soundness rule asks about, never leave 64 bits.
+pub struct Geometry {
+    pub main: u32,
+    pub spare: u32,
+    pub pages: u32,
+    pub blocks: u32,
+    pub id0: u8,
+    pub id1: u8,
+}
+
+// A row address: which page of the array.
+pub struct Row(pub u16);
+
+// A column address: which byte of a page.
+pub struct Column(pub u16);
+
+impl Geometry {
+    // P, the bytes of a page.
+    pub fn page(self) -> usize
+        ensures { λ r. ⌜ r ≡ page self ⌝ }
+    {
+        wide(self.main) + wide(self.spare)
+    }
+
+    // The rows of the array, K times N.
+    pub fn rows(self) -> usize
+        ensures { λ r. ⌜ r ≡ rows self ⌝ }
+    {
+        wide(self.pages) * wide(self.blocks)
+    }
+
+    // D at least 1, P at most 4,096, K from 1 to 256, N at least 1, K times N at most 65,536.
+    pub fn sound(self) -> bool
+        ensures { λ r. ⌜ r ≡ soundPart self ⌝ }
+    {
+        if self.main < 1 {
+            return false;
+        }
+        if 4096 < self.page() {
+            return false;
+        }
+        if self.pages < 1 {
+            return false;
+        }
+        if 256 < self.pages {
+            return false;
+        }
+        if self.blocks < 1 {
+            return false;
+        }
+        self.rows() <= 65536
+    }
+
+    // The block of a row. A part without pages, which is not sound, has the one number 0.
+    pub fn block(self, row: Row) -> usize
+        ensures { λ r. ⌜ r ≡ block self row ⌝ }
+    {
+        if self.pages == 0 {
+            return 0;
+        }
+        narrow(row.0) / wide(self.pages)
+    }
+}
+
+// The place of a cell: the one function that takes a row and a column.
+pub fn place(g: Geometry, row: Row, column: Column) -> usize
+    ensures { λ r. ⌜ r ≡ place g row column ⌝ }
+{
+    narrow(row.0) * g.page() + narrow(column.0)
+}
+
+// How many blocks register A0h protects.
+fn guarded(g: Geometry, a0: u8) -> usize
+    ensures { λ r. ⌜ r ≡ guarded g (bp a0) ⌝ }
+{
+    let b = a0 / 8 % 8;
+    if b == 0 {
+        return 0;
+    }
+    wide(g.blocks) >> (7 - b)
+}
+
+// Whether register A0h protects a block.
+pub fn protected(g: Geometry, a0: u8, block: usize) -> bool
+    ensures { λ r. ⌜ r ≡ protects g a0 block ⌝ }
+{
+    let count = guarded(g, a0);
+    if a0 / 4 % 2 == 1 {
+        return block < count;
+    }
+    let n = wide(g.blocks);
+    if n <= block {
+        return false;
+    }
+    n - count <= block
+}
+
+// The part of the datasheet.
+pub struct Fm25s005bi3 {}
+
+impl Fm25s005bi3 {
+    pub const D: u32 = 2048;
+
+    pub const S: u32 = 128;
+
+    pub const K: u32 = 64;
+
+    pub const N: u32 = 512;
+
+    pub const ID0: u8 = 0xA1;
+
+    pub const ID1: u8 = 0xD5;
+
+    pub fn geometry() -> Geometry
+        ensures { λ r. ⌜ r ≡ fm25s005bi3 ⌝ }
+    {
+        Geometry {
+            main: Fm25s005bi3::D,
+            spare: Fm25s005bi3::S,
+            pages: Fm25s005bi3::K,
+            blocks: Fm25s005bi3::N,
+            id0: Fm25s005bi3::ID0,
+            id1: Fm25s005bi3::ID1,
+        }
+    }
+}
+
+// The small part of the replay program.
+pub struct Bench {}
+
+impl Bench {
+    pub const D: u32 = 16;
+
+    pub const S: u32 = 4;
+
+    pub const K: u32 = 4;
+
+    pub const N: u32 = 8;
+
+    pub const ID0: u8 = 0x5A;
+
+    pub const ID1: u8 = 0x01;
+
+    pub fn geometry() -> Geometry
+        ensures { λ r. ⌜ r ≡ bench ⌝ }
+    {
+        Geometry {
+            main: Bench::D,
+            spare: Bench::S,
+            pages: Bench::K,
+            blocks: Bench::N,
+            id0: Bench::ID0,
+            id1: Bench::ID1,
+        }
+    }
+}
+
+fn wide(x: u32) -> usize
+    ensures { λ r. ⌜ r ≡ x ⌝ }
+{
+    x as usize
+}
+
+fn narrow(x: u16) -> usize
+    ensures { λ r. ⌜ r ≡ x ⌝ }
+{
+    x as usize
+}
