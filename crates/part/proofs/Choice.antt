@@ -3,6 +3,14 @@ use mathlib.Core.Bool.{Bool, true, false, cond, not, _&&_, _||_}
 use mathlib.Core.Path.{_≡_, refl, sym, subst}
 use lib.Dec.{T}
 
+-- a choice on a test that is known
+module _ {A : Type 0} (b : Bool) (x y : A) where
+  pub cond-yes : b ≡ true → cond b x y ≡ x
+  cond-yes e = subst (λ (b : Bool). cond b x y ≡ x) (sym e) refl
+
+  pub cond-no : b ≡ false → cond b x y ≡ y
+  cond-no e = subst (λ (b : Bool). cond b x y ≡ y) (sym e) refl
+
 -- what holds of both sides of a choice holds of the choice
 pub cond-keep : {A : Type 0} (P : A → Type 0) (b : Bool) {x y : A} → (b ≡ true → P x) → (b ≡ false → P y) → P (cond b x y)
 cond-keep P true p q = p refl

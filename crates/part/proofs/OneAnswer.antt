@@ -17,6 +17,10 @@ use Rattle.part.proofs.Fm25s005bi3.geometry.Reads as fm25s005bi3-reads
 use Rattle.part.proofs.Fm25s005bi3.geometry.Kinds as fm25s005bi3-kinds
 use Rattle.part.proofs.Bench.geometry.Reads as bench-reads
 use Rattle.part.proofs.Bench.geometry.Kinds as bench-kinds
+use Rattle.part.proofs.wide.Reads as wide-reads
+use Rattle.part.proofs.wide.Kinds as wide-kinds
+use Rattle.part.proofs.wide_short.Reads as wide-short-reads
+use Rattle.part.proofs.wide_short.Kinds as wide-short-kinds
 
 pub page-one : OneAnswer 0 page-kinds.ps page-kinds.r page-reads.Post
 page-one κs a x y s t p q = p ∙ sym q
@@ -41,3 +45,9 @@ fm25s005bi3-one κs a x y s t p q = p ∙ sym q
 
 pub bench-one : OneAnswer 0 bench-kinds.ps bench-kinds.r bench-reads.Post
 bench-one κs a x y s t p q = p ∙ sym q
+
+pub wide-one : OneAnswer 0 wide-kinds.ps wide-kinds.r wide-reads.Post
+wide-one κs a x y s t p q = p ∙ sym q
+
+pub wide-short-one : OneAnswer 0 wide-short-kinds.ps wide-short-kinds.r wide-short-reads.Post
+wide-short-one κs a x y s t p q = p ∙ sym q

@@ -65,7 +65,7 @@ impl Geometry {
         if self.pages == 0 {
             return 0;
         }
-        narrow(row.0) / wide(self.pages)
+        wide_short(row.0) / wide(self.pages)
     }
 }
 
@@ -73,7 +73,7 @@ impl Geometry {
 pub fn place(g: Geometry, row: Row, column: Column) -> usize
     ensures { λ r. ⌜ r ≡ place g row column ⌝ }
 {
-    narrow(row.0) * g.page() + narrow(column.0)
+    wide_short(row.0) * g.page() + wide_short(column.0)
 }
 
 // How many blocks register A0h protects.
@@ -162,13 +162,14 @@ impl Bench {
     }
 }
 
-fn wide(x: u32) -> usize
+// A number of 32 bits, and one of 16, as a length or a place.
+pub fn wide(x: u32) -> usize
     ensures { λ r. ⌜ r ≡ x ⌝ }
 {
     x as usize
 }
 
-fn narrow(x: u16) -> usize
+pub fn wide_short(x: u16) -> usize
     ensures { λ r. ⌜ r ≡ x ⌝ }
 {
     x as usize

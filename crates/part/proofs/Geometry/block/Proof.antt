@@ -6,8 +6,8 @@ use Rattle.part.proofs.Geometry.block.Tie as tie
 returns : tie.Need-returns
 returns c = rw (c .if1 .taken, div-zero)
 
-narrow-requires : tie.Need-narrow-requires
-narrow-requires c κs = search needs
+wide-short-requires : tie.Need-wide-short-requires
+wide-short-requires c κs = search needs
 
 wide-requires : tie.Need-wide-requires
 wide-requires c κs = search needs
@@ -16,7 +16,7 @@ div-result : tie.Need-div-result
 div-result c = search needs
 
 returns-2 : tie.Need-returns-2
-returns-2 c = rw (c .before .narrow .ensures, c .wide .ensures)
+returns-2 c = rw (c .before .wide-short .ensures, c .wide .ensures)
 
 pub block-spec : {M : Type 1} → statement M
-block-spec = tie.close (tie.spec returns narrow-requires wide-requires div-result returns-2)
+block-spec = tie.close (tie.spec returns wide-short-requires wide-requires div-result returns-2)

@@ -1,0 +1,6 @@
+pub mod Steps
+pub mod Loop
+pub mod Room
+pub mod Stores
+pub mod Keeps
+pub mod OneAnswer

@@ -1,0 +1,14 @@
+-- The cases hold, by computation.
+use mathlib.Core.Path.{refl}
+use Rattle.part.specs.Protection.{protects}
+use Rattle.registers.specs.Registers.{register, registerWritten}
+use Rattle.transfer.specs.Transfer.{instructionOf, selects, shiftedIn, cached}
+use Rattle.array.specs.Jobs.{written}
+use Rattle.device.specs.Work.{unitOf, units, stepping}
+use Rattle.device.specs.Instructions.{shifts, programFate, eraseFate, programs, erases, resets, effect, acted, deselects}
+use Rattle.device.specs.Step.{off, powered, step, run}
+use Rattle.cases.specs.Cases.{cases, AllCases}
+
+pub all-cases : AllCases
+unfolding cases protects registerWritten instructionOf selects shiftedIn cached written unitOf units stepping shifts programFate eraseFate programs erases resets effect acted deselects off powered step run
+all-cases = refl

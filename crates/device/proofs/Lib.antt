@@ -1,0 +1,5 @@
+pub mod Fates
+pub mod Units
+pub mod Bytes
+pub mod Division
+pub mod OneAnswer

@@ -1,0 +1,36 @@
+-- Power lost and back.
+use Rattle.device.specs.Work.{stepping}
+use Rattle.device.specs.Step.{off, powered}
+use borrow.Author.Needs.{needs}
+use Rattle.device.proofs.State.power.Statement.{statement}
+use Rattle.device.proofs.State.power.Tie as tie
+
+blank-requires : tie.Need-blank-requires
+blank-requires c κs = search needs
+
+at-power-up-requires : tie.Need-at-power-up-requires
+at-power-up-requires c κs = search needs
+
+ends-requires : tie.Need-ends-requires
+ends-requires c κs = search needs
+
+begins-requires : tie.Need-begins-requires
+begins-requires c κs = search needs
+
+same-length : tie.Need-same-length
+same-length c = search needs
+
+returns : tie.Need-returns
+unfolding stepping off powered
+returns c = λ cells counts. rw (c .begins .ensures, c .before .ends .ensures, c .before .before .at-power-up .ensures, c .before .before .before .before .before .before .blank .ensures)
+
+pub power-spec : {M : Type 1} → statement M
+power-spec =
+    tie.close
+    (tie.spec
+    blank-requires
+    at-power-up-requires
+    ends-requires
+    begins-requires
+    same-length
+    returns)

@@ -1,0 +1,145 @@
+-- Document 01, "Instructions": a byte shifted in with its answer on DO, and what an instruction does as chip select rises.
+use mathlib.Core.Bool.{Bool, true, false, not, _&&_}
+use mathlib.Core.List.{List, _++_}
+use mathlib.Core.Path.{_≡_}
+use Prim.Native.Nat.{ℕ, _+_, _*_}
+use lib.Dec.{leb, eqb}
+use lib.ListN.{length, getD, take, drop, set, replicate}
+use Rattle.part.specs.Choice.{if_then_else_}
+use Rattle.part.specs.Part.{rows, block, Sound}
+use Rattle.part.specs.Protection.{protects}
+use Rattle.part.specs.declared.Geometry.{Geometry}
+use Rattle.part.specs.declared.Row.{Row}
+use Rattle.registers.specs.Registers.{oip, wel, welSet, welCleared, requestCleared, eFailSet, pFailSet, resetStatus, register, registerWritten}
+use Rattle.transfer.specs.Transfer.{is, bodyHeard, shiftedIn, cached, rowOf, ends, full}
+use Rattle.transfer.specs.declared.Transfer.{Transfer}
+use Rattle.transfer.specs.declared.Instruction.{Instruction}
+use Rattle.transfer.specs.declared.Instruction.the-variants.{Ignored, WriteEnable, WriteDisable, GetFeature, SetFeature, ReadId, PageRead, ReadCache, Load, LoadRandom, Execute, BlockErase, Reset}
+use Rattle.array.specs.Jobs.{withCache, inside}
+use Rattle.array.specs.declared.Job.{Job}
+use Rattle.array.specs.declared.Job.the-variants.{Read, Program, Erase}
+use Rattle.array.specs.declared.Work.the-variants.{Idle}
+use Rattle.device.specs.declared.Fate.{Fate}
+use Rattle.device.specs.declared.Fate.the-variants.{Begins, ByRow, ByProtection, ByCount}
+use Rattle.device.specs.declared.State.{State}
+use Rattle.device.specs.Machine.{Machine, regsIn, workIn, statusIn, withState, overBus, overStore, withStatus, withCounts}
+use Rattle.device.specs.Work.{Array}
+
+-- ---- a byte shifted
+
+-- one byte shifted in on DI
+unfoldable pub shifts : Geometry → ℕ → Machine → Machine
+shifts g b m =
+    let s = m .state in
+    overBus (shiftedIn g (oip (s .regs .c0)) b) (overStore (λ x. withCache (cached g (s .bus) b (x .cache)) x) m)
+
+-- ---- the byte on DO: FFh wherever no answer is named
+
+-- from the byte that has k before it on
+abbrev pub from : ℕ → ℕ → ℕ → ℕ
+from k n x = if leb k n then x else 0xFF
+
+-- 0Fh: each byte after the address answers the register's present value; 9Fh: after one idle byte the two identity bytes; 03h and 0Bh: after the
+-- column and one idle byte the cache from the column on, FFh past P
+unfoldable pub answer : Geometry → State → List ℕ → ℕ
+answer g s cache =
+    let t = s .bus .transfer in
+    let n = t .count in
+    if not (bodyHeard (s .bus)) then 0xFF
+    else if is t 0x0F then from 2 n (register (s .regs) (t .first))
+    else if is t 0x9F then if eqb n 2 then g .id0 else if eqb n 3 then g .id1 else 0xFF
+    else if is t 0x03 then from 4 n (getD cache (t .column .0) 0xFF)
+    else 0xFF
+
+-- ---- 10h and D8h
+
+-- what becomes of a request to program or to erase: it begins, or fails for the first true reason
+abbrev pub begins? : Fate → Bool
+begins? Begins = true
+begins? ByRow = false
+begins? ByProtection = false
+begins? ByCount = false
+
+-- the row is outside the array, or its block is protected; else what more there is to ask
+abbrev pub barred : Geometry → ℕ → Row → Fate → Fate
+barred g a0 r rest = if not (inside g r) then ByRow else if protects g a0 (block g r) then ByProtection else rest
+
+-- how often the page of a row has been programmed since its block was erased
+abbrev pub usedOf : Row → List ℕ → ℕ
+usedOf r counts = getD counts (r .0) 0
+
+-- 10h also fails if the count is 4 or above
+unfoldable pub programFate : Geometry → ℕ → Row → List ℕ → Fate
+programFate g a0 r counts = barred g a0 r (if leb 4 (usedOf r counts) then ByCount else Begins)
+
+unfoldable pub eraseFate : Geometry → ℕ → Row → Fate
+eraseFate g a0 r = barred g a0 r Begins
+
+-- the count rises by 1
+abbrev pub counted : Row → List ℕ → List ℕ
+counted r counts = set counts (r .0) (usedOf r counts + 1)
+
+-- the block's counts become 0
+abbrev pub uncounted : Geometry → Row → List ℕ → List ℕ
+uncounted g r counts = let a = block g r * g .pages in take a counts ++ (replicate (g .pages) 0 ++ drop (a + g .pages) counts)
+
+-- with WEL 0 a request does nothing; otherwise WEL and both fail bits are cleared first, and then it is as its fate says
+abbrev pub requested : Fate → (Machine → Machine) → (ℕ → ℕ) → Machine → Machine
+requested f go fail m =
+    let c = requestCleared (m .state .regs .c0) in
+    if wel (m .state .regs .c0) then if begins? f then go (withStatus c m) else withStatus (fail c) m
+    else m
+
+unfoldable pub programs : Geometry → Array → Row → Machine → Machine
+programs g arr r m =
+    requested (programFate g (m .state .regs .a0) r (m .counts)) (λ m. arr .begin (Program r) (withCounts (counted r (m .counts)) m)) pFailSet m
+
+unfoldable pub erases : Geometry → Array → Row → Machine → Machine
+erases g arr r m =
+    requested (eraseFate g (m .state .regs .a0) r) (λ m. arr .begin (Erase r) (withCounts (uncounted g r (m .counts)) m)) eFailSet m
+
+-- what a request may count on: a sound part, and one count a page
+pub record CountsReady (g : Geometry) (counts : List ℕ) : Type 0 where
+  pub part : Sound g
+  pub long : length counts ≡ rows g
+
+-- ---- FFh
+
+-- a reset stops an operation after the units done, and is over at once
+abbrev pub resetState : State → State
+resetState s = workIn Idle (statusIn (resetStatus (s .regs .c0)) s)
+
+unfoldable pub resets : Array → Machine → Machine
+resets arr m = let m₁ = arr .cut m in withState (resetState (m₁ .state)) m₁
+
+-- ---- 1Fh
+
+-- the register at the address takes the value
+abbrev pub writtenState : Geometry → State → State
+writtenState g s = let t = s .bus .transfer in regsIn (registerWritten g (s .bus .pins) (t .first) (t .second) (s .regs)) s
+
+-- ---- all of them
+
+-- what an instruction does, its bytes all there
+unfoldable pub effect : Geometry → Array → Instruction → Machine → Machine
+effect g arr WriteEnable m = withStatus (welSet (m .state .regs .c0)) m
+effect g arr WriteDisable m = withStatus (welCleared (m .state .regs .c0)) m
+effect g arr SetFeature m = withState (writtenState g (m .state)) m
+effect g arr PageRead m = arr .begin (Read (rowOf (m .state .bus .transfer))) m
+effect g arr Execute m = programs g arr (rowOf (m .state .bus .transfer)) m
+effect g arr BlockErase m = erases g arr (rowOf (m .state .bus .transfer)) m
+effect g arr Reset m = resets arr m
+effect g arr Ignored m = m
+effect g arr GetFeature m = m
+effect g arr ReadId m = m
+effect g arr ReadCache m = m
+effect g arr Load m = m
+effect g arr LoadRandom m = m
+
+-- only if exactly its bytes were shifted
+unfoldable pub acted : Geometry → Array → Machine → Machine
+acted g arr m = let t = m .state .bus .transfer in if full t then effect g arr (t .instruction) m else m
+
+-- chip select rises; while not selected it changes nothing
+unfoldable pub deselects : Geometry → Array → Machine → Machine
+deselects g arr m = if m .state .bus .transfer .selected then overBus ends (acted g arr m) else m

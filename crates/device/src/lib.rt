@@ -1,0 +1,521 @@
+// The device: its state, and what each event of the bus does to it.
+// Document 01, "Instructions" and "Work of the array". Each method takes the state whole and hands the next one back.
+ghost use mathlib.Core.List.{List};
+ghost use mathlib.Core.Path.{_≡_};
+ghost use Prim.Native.Nat.{ℕ, _<_};
+ghost use lib.ListN.{length, getD, replicate};
+ghost use lib.Dec.{ltb};
+ghost use Rattle.array.specs.Jobs.{store, lengthOf};
+ghost use Rattle.transfer.specs.Transfer.{selects, withPins};
+ghost use Rattle.device.specs.Machine.{machine, busIn, statusIn};
+ghost use Rattle.device.specs.Work.{begun, units, stepping, workedState, WorkReady};
+ghost use Rattle.device.specs.Instructions.{answer, shifts, begins?, usedOf, programFate, eraseFate, counted, uncounted, programs, erases, resetState, writtenState, effect, acted, deselects, CountsReady};
+ghost use Rattle.device.specs.Step.{powerUp, powered};
+ghost use Rattle.device.specs.Sound.{soundState, workSound, inArray, calm};
+use array::Job;
+use array::Work;
+use part::Geometry;
+use part::Row;
+use registers::Pins;
+use registers::Registers;
+use transfer::Bus;
+use transfer::Instruction;
+use transfer::Transfer;
+
+// The device state: it goes in whole and comes back whole with each event.
+pub struct State {
+    pub regs: Registers,
+    pub bus: Bus,
+    pub work: Work,
+}
+
+// A byte shifted: the next state, and the byte on DO.
+pub struct Shifted {
+    pub state: State,
+    pub out: u8,
+}
+
+// What becomes of a request to program or to erase.
+pub enum Fate {
+    Begins,
+    ByRow,
+    ByProtection,
+    ByCount,
+}
+
+// Whether a request begins.
+fn begins(f: Fate) -> bool
+    ensures { λ r. ⌜ r ≡ begins? f ⌝ }
+{
+    match f {
+        Fate::Begins => true,
+        Fate::ByRow => false,
+        Fate::ByProtection => false,
+        Fate::ByCount => false,
+    }
+}
+
+// What becomes of an erase: its row may be outside the array, its block protected.
+fn erase_fate(g: Geometry, a0: u8, row: Row) -> Fate
+    ensures { λ r. ⌜ r ≡ eraseFate g a0 row ⌝ }
+{
+    if g.rows() <= part::wide_short(row.0) {
+        return Fate::ByRow;
+    }
+    if part::protected(g, a0, g.block(row)) {
+        return Fate::ByProtection;
+    }
+    Fate::Begins
+}
+
+// What becomes of a program: the same is asked, and then the count.
+fn program_fate(g: Geometry, a0: u8, row: Row, counts: &[u8]) -> Fate
+    requires { ⌜ CountsReady g (now counts) ⌝ }
+    ensures { λ r. ⌜ r ≡ programFate g a0 row (now (counts .entry)) ⌝ }
+{
+    let f = erase_fate(g, a0, row);
+    if !begins(f) {
+        return f;
+    }
+    let at = part::wide_short(row.0);
+    if 4 <= counts[at] {
+        return Fate::ByCount;
+    }
+    Fate::Begins
+}
+
+// A page's count rises by 1.
+fn count_up(row: Row, counts: &mut [u8])
+    requires { ⌜ (row .0 < length (now counts)) × (usedOf row (now counts) < 4) ⌝ }
+    ensures { λ r. ⌜ now (counts .exit) ≡ counted row (now (counts .entry)) ⌝ }
+{
+    let at = part::wide_short(row.0);
+    counts[at] = counts[at] + 1;
+}
+
+// The counts of a block become 0.
+fn uncount(g: Geometry, row: Row, counts: &mut [u8])
+    requires { ⌜ (CountsReady g (now counts)) × (row .0 < length (now counts)) ⌝ }
+    ensures { λ r. ⌜ now (counts .exit) ≡ uncounted g row (now (counts .entry)) ⌝ }
+{
+    let k = part::wide(g.pages);
+    let a = g.block(row) * k;
+    let e = a + k;
+    zero(&mut counts[a..e]);
+}
+
+fn zero(counts: &mut [u8])
+    ensures { λ r. ⌜ now (counts .exit) ≡ replicate (length (now (counts .entry))) 0 ⌝ }
+{
+    let mut i = 0;
+    while i < counts.len() {
+        counts[i] = 0;
+        i += 1;
+    }
+}
+
+// The cache byte at a column, FFh past the page's end.
+fn cache_byte(t: Transfer, cache: &[u8]) -> u8
+    ensures { λ r. ⌜ r ≡ getD (now (cache .entry)) (t .column .0) 0xFF ⌝ }
+{
+    let c = t.column;
+    let at = part::wide_short(c.0);
+    if at < cache.len() {
+        return cache[at];
+    }
+    0xFF
+}
+
+impl State {
+    // The power-up state, WP# high.
+    pub fn power_up() -> State
+        ensures { λ r. ⌜ r ≡ powerUp ⌝ }
+    {
+        State {
+            regs: Registers {
+                a0: 0x38,
+                b0: 0x10,
+                c0: 0x01,
+                d0: 0x40,
+            },
+            bus: Bus {
+                pins: Pins { wp: true },
+                transfer: Transfer::fresh(false),
+            },
+            work: Work::Busy(Job::Read(Row(0)), 0),
+        }
+    }
+
+    // Chip select falls.
+    pub fn select(self) -> State
+        ensures { λ r. ⌜ r ≡ busIn (selects (self .bus)) self ⌝ }
+    {
+        let x = self.bus;
+        State {
+            bus: x.selects(),
+            ..self
+        }
+    }
+
+    // The levels of the pins are set.
+    pub fn level(self, pins: Pins) -> State
+        ensures { λ r. ⌜ r ≡ busIn (withPins pins (self .bus)) self ⌝ }
+    {
+        let x = self.bus;
+        State {
+            bus: Bus { pins: pins, ..x },
+            ..self
+        }
+    }
+
+    // The byte on DO for a byte shifted now.
+    fn answer(self, g: Geometry, cache: &[u8]) -> u8
+        ensures { λ r. ⌜ r ≡ answer g self (now (cache .entry)) ⌝ }
+    {
+        let x = self.bus;
+        if !x.body_heard() {
+            return 0xFF;
+        }
+        let t = x.transfer;
+        let n = t.count;
+        if t.is(0x0F) {
+            if n < 2 {
+                return 0xFF;
+            }
+            let r = self.regs;
+            return r.read(t.first);
+        }
+        if t.is(0x9F) {
+            if n == 2 {
+                return g.id0;
+            }
+            if n == 3 {
+                return g.id1;
+            }
+            return 0xFF;
+        }
+        if t.is(0x03) {
+            if n < 4 {
+                return 0xFF;
+            }
+            return cache_byte(t, cache);
+        }
+        0xFF
+    }
+
+    // One byte shifted in on DI, one out on DO.
+    pub fn shift(self, g: Geometry, b: u8, cache: &mut [u8]) -> Shifted
+        ensures { λ r. ⌜ ((cells counts : List ℕ) → machine (r .state) cells (now (cache .exit)) counts ≡ shifts g b (machine self cells (now (cache .entry)) counts)) × (r .out ≡ answer g self (now (cache .entry))) ⌝ }
+    {
+        let out = self.answer(g, &*cache);
+        let x = self.bus;
+        let r = self.regs;
+        x.caches(g, b, cache);
+        let y = x.shifted_in(g, registers::oip(r.c0), b);
+        Shifted {
+            state: State { bus: y, ..self },
+            out: out,
+        }
+    }
+
+    // Another status register.
+    fn with_status(self, c: u8) -> State
+        ensures { λ r. ⌜ r ≡ statusIn c self ⌝ }
+    {
+        let r = self.regs;
+        State {
+            regs: Registers { c0: c, ..r },
+            ..self
+        }
+    }
+
+    // An operation begins: OIP is 1, and no unit is done.
+    fn begins(self, job: Job) -> State
+        ensures { λ r. ⌜ r ≡ begun job self ⌝ }
+    {
+        let r = self.regs;
+        State {
+            regs: Registers {
+                c0: registers::oip_set(r.c0),
+                ..r
+            },
+            work: Work::Busy(job, 0),
+            ..self
+        }
+    }
+
+    // 10h with its row.
+    fn programs(self, g: Geometry, row: Row, counts: &mut [u8]) -> State
+        requires { ⌜ CountsReady g (now counts) ⌝ }
+        ensures { λ r. ⌜ ((cells cache : List ℕ) → machine r cells cache (now (counts .exit)) ≡ programs g (stepping g) row (machine self cells cache (now (counts .entry)))) ⌝ }
+    {
+        let r = self.regs;
+        if !registers::wel(r.c0) {
+            return self;
+        }
+        let f = program_fate(g, r.a0, row, &*counts);
+        if !begins(f) {
+            return self.with_status(registers::program_failed(r.c0));
+        }
+        count_up(row, counts);
+        let s = self.with_status(registers::request_cleared(r.c0));
+        s.begins(Job::Program(row))
+    }
+
+    // D8h with its row.
+    fn erases(self, g: Geometry, row: Row, counts: &mut [u8]) -> State
+        requires { ⌜ CountsReady g (now counts) ⌝ }
+        ensures { λ r. ⌜ ((cells cache : List ℕ) → machine r cells cache (now (counts .exit)) ≡ erases g (stepping g) row (machine self cells cache (now (counts .entry)))) ⌝ }
+    {
+        let r = self.regs;
+        if !registers::wel(r.c0) {
+            return self;
+        }
+        let f = erase_fate(g, r.a0, row);
+        if !begins(f) {
+            return self.with_status(registers::erase_failed(r.c0));
+        }
+        uncount(g, row, counts);
+        let s = self.with_status(registers::request_cleared(r.c0));
+        s.begins(Job::Erase(row))
+    }
+
+    // FFh: an operation in progress is stopped after the units done.
+    fn resets(self) -> State
+        ensures { λ r. ⌜ r ≡ resetState self ⌝ }
+    {
+        let r = self.regs;
+        State {
+            regs: Registers {
+                c0: registers::reset_status(r.c0),
+                ..r
+            },
+            work: Work::Idle,
+            ..self
+        }
+    }
+
+    // What the instruction does, its bytes all there.
+    fn effect(self, g: Geometry, counts: &mut [u8]) -> State
+        requires { ⌜ CountsReady g (now counts) ⌝ }
+        ensures { λ r. ⌜ ((cells cache : List ℕ) → machine r cells cache (now (counts .exit)) ≡ effect g (stepping g) (self .bus .transfer .instruction) (machine self cells cache (now (counts .entry)))) ⌝ }
+    {
+        let r = self.regs;
+        let x = self.bus;
+        let t = x.transfer;
+        let i = t.instruction;
+        match i {
+            Instruction::WriteEnable => self.with_status(registers::wel_set(r.c0)),
+            Instruction::WriteDisable => self.with_status(registers::wel_cleared(r.c0)),
+            Instruction::SetFeature => self.writes(g),
+            Instruction::PageRead => self.begins(Job::Read(t.row())),
+            Instruction::Execute => self.programs(g, t.row(), counts),
+            Instruction::BlockErase => self.erases(g, t.row(), counts),
+            Instruction::Reset => self.resets(),
+            Instruction::Ignored => self,
+            Instruction::GetFeature => self,
+            Instruction::ReadId => self,
+            Instruction::ReadCache => self,
+            Instruction::Load => self,
+            Instruction::LoadRandom => self,
+        }
+    }
+
+    // 1Fh with its address and value.
+    fn writes(self, g: Geometry) -> State
+        ensures { λ r. ⌜ r ≡ writtenState g self ⌝ }
+    {
+        let r = self.regs;
+        let x = self.bus;
+        let t = x.transfer;
+        let p = x.pins;
+        State {
+            regs: r.written(g, p, t.first, t.second),
+            ..self
+        }
+    }
+
+    // The instruction acts if exactly its bytes were shifted.
+    fn acts(self, g: Geometry, counts: &mut [u8]) -> State
+        requires { ⌜ CountsReady g (now counts) ⌝ }
+        ensures { λ r. ⌜ ((cells cache : List ℕ) → machine r cells cache (now (counts .exit)) ≡ acted g (stepping g) (machine self cells cache (now (counts .entry)))) ⌝ }
+    {
+        let x = self.bus;
+        let t = x.transfer;
+        if t.full() {
+            return self.effect(g, counts);
+        }
+        self
+    }
+
+    // Chip select rises.
+    pub fn deselect(self, g: Geometry, counts: &mut [u8]) -> State
+        requires { ⌜ CountsReady g (now counts) ⌝ }
+        ensures { λ r. ⌜ ((cells cache : List ℕ) → machine r cells cache (now (counts .exit)) ≡ deselects g (stepping g) (machine self cells cache (now (counts .entry)))) ⌝ }
+    {
+        let x = self.bus;
+        let t = x.transfer;
+        if !t.selected {
+            return self;
+        }
+        let s = self.acts(g, counts);
+        let y = s.bus;
+        State { bus: y.ends(), ..s }
+    }
+
+    // Power lost and back.
+    pub fn power(self, g: Geometry, cache: &mut [u8]) -> State
+        ensures { λ r. ⌜ ((cells counts : List ℕ) → machine r cells (now (cache .exit)) counts ≡ powered g (stepping g) (machine self cells (now (cache .entry)) counts)) ⌝ }
+    {
+        transfer::blank(cache);
+        let x = self.bus;
+        let s = State {
+            regs: Registers::at_power_up(),
+            bus: x.ends(),
+            work: Work::Idle,
+        };
+        s.begins(Job::Read(Row(0)))
+    }
+
+    // The state when the work has come so far.
+    fn worked(self, next: Work) -> State
+        ensures { λ r. ⌜ r ≡ workedState next self ⌝ }
+    {
+        match next {
+            Work::Idle => {
+                let r = self.regs;
+                State {
+                    regs: Registers {
+                        c0: registers::oip_cleared(r.c0),
+                        ..r
+                    },
+                    work: Work::Idle,
+                    ..self
+                }
+            }
+            Work::Busy(job, done) => State {
+                work: Work::Busy(job, done),
+                ..self
+            },
+        }
+    }
+
+    // Array work of n units.
+    pub fn work(self, g: Geometry, n: u16, cells: &mut [u8], cache: &mut [u8]) -> State
+        requires { ⌜ WorkReady g (self .work) (store (now cells) (now cache)) ⌝ }
+        ensures { λ r. ⌜ ((counts : List ℕ) → machine r (now (cells .exit)) (now (cache .exit)) counts ≡ units g n (machine self (now (cells .entry)) (now (cache .entry)) counts)) ⌝ }
+    {
+        let w = self.work;
+        match w {
+            Work::Idle => self,
+            Work::Busy(job, done) => {
+                let next = array::advance(g, job, done, n, cells, cache);
+                self.worked(next)
+            }
+        }
+    }
+
+    // Whether the state is sound for a part.
+    pub fn sound(self, g: Geometry) -> bool
+        ensures { λ r. ⌜ r ≡ soundState g self ⌝ }
+    {
+        let r = self.regs;
+        let x = self.bus;
+        let t = x.transfer;
+        let c = t.column;
+        let w = self.work;
+        if r.a0 & 0xBC != r.a0 {
+            return false;
+        }
+        if r.b0 & 0x11 != r.b0 {
+            return false;
+        }
+        if r.d0 & 0x60 != r.d0 {
+            return false;
+        }
+        if r.c0 / 16 != 0 {
+            return false;
+        }
+        if 5 < t.count {
+            return false;
+        }
+        if 4096 < c.0 {
+            return false;
+        }
+        if !work_sound(g, r.c0, w) {
+            return false;
+        }
+        calm(r.c0, t)
+    }
+}
+
+// Whether OIP is 1 exactly when an operation is in progress, and that is sound.
+fn work_sound(g: Geometry, c: u8, w: Work) -> bool
+    ensures { λ r. ⌜ r ≡ workSound g c w ⌝ }
+{
+    match w {
+        Work::Idle => !registers::oip(c),
+        Work::Busy(job, done) => {
+            if !registers::oip(c) {
+                return false;
+            }
+            if !unit_left(g, job, done) {
+                return false;
+            }
+            in_array(g, job)
+        }
+    }
+}
+
+// Whether an operation has a unit left. The length of an erase is not multiplied out, since that of an unsound part may not fit.
+fn unit_left(g: Geometry, job: Job, done: usize) -> bool
+    ensures { λ r. ⌜ r ≡ ltb done (lengthOf g job) ⌝ }
+{
+    let p = g.page();
+    match job {
+        Job::Read(_) => done < p,
+        Job::Program(_) => done < p,
+        Job::Erase(_) => {
+            if p == 0 {
+                return false;
+            }
+            done / p < part::wide(g.pages)
+        }
+    }
+}
+
+// Whether an operation's row is in the array, where it has to be.
+fn in_array(g: Geometry, job: Job) -> bool
+    ensures { λ r. ⌜ r ≡ inArray g job ⌝ }
+{
+    match job {
+        Job::Read(_) => true,
+        Job::Program(row) => part::wide_short(row.0) < g.rows(),
+        Job::Erase(row) => part::wide_short(row.0) < g.rows(),
+    }
+}
+
+// Whether the transfer is one that a busy array lets be.
+fn calm(c: u8, t: Transfer) -> bool
+    ensures { λ r. ⌜ r ≡ calm c t ⌝ }
+{
+    if !registers::oip(c) {
+        return true;
+    }
+    if !t.selected {
+        return true;
+    }
+    if t.count == 0 {
+        return true;
+    }
+    if t.is(0x0F) {
+        return true;
+    }
+    if t.is(0x9F) {
+        return true;
+    }
+    if t.is(0xFF) {
+        return true;
+    }
+    t.is(256)
+}

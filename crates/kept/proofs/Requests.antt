@@ -1,0 +1,101 @@
+-- What an instruction does as chip select rises keeps all but the bus sound: a request begins only for a row in the array.
+use mathlib.Core.Bool.{Bool, true, false, not}
+use mathlib.Core.List.{List}
+use mathlib.Core.Path.{_≡_, refl, sym, subst, _∙_}
+use Prim.Native.Nat.{ℕ, _/_, _%_, _<_}
+use native.Mathlib.Omega.{arith}
+use lib.Dec.{T, leb}
+use lib.ListN.{length}
+use borrow.Author.Tests.{ltb-true}
+use Rattle.part.specs.Choice.{if_then_else_}
+use Rattle.part.specs.Part.{rows, block, Sound}
+use Rattle.part.specs.Protection.{protects}
+use Rattle.part.specs.declared.Geometry.{Geometry}
+use Rattle.part.specs.declared.Row.{Row}
+use Rattle.part.proofs.Choice.{cond-keep}
+use Rattle.registers.specs.Registers.{wel, welSet, welCleared, requestCleared, eFailSet, pFailSet, resetStatus, registerWritten}
+use Rattle.transfer.specs.Transfer.{rowOf, full}
+use Rattle.transfer.specs.declared.Transfer.{Transfer}
+use Rattle.transfer.specs.declared.Instruction.{Instruction}
+use Rattle.transfer.specs.declared.Instruction.the-variants.{Ignored, WriteEnable, WriteDisable, GetFeature, SetFeature, ReadId, PageRead, ReadCache, Load, LoadRandom, Execute, BlockErase, Reset}
+use Rattle.array.specs.Jobs.{inside}
+use Rattle.array.specs.declared.Job.the-variants.{Read, Program, Erase}
+use Rattle.device.specs.Machine.{Machine, withStatus, withCounts}
+use Rattle.device.specs.Work.{begins, stepping}
+use Rattle.device.specs.declared.Fate.{Fate}
+use Rattle.device.proofs.Fates.{erase-inside, program-begins}
+use Rattle.device.specs.Instructions.{begins?, programFate, eraseFate, counted, uncounted, requested, programs, erases, resets, effect, acted}
+use Rattle.kept.proofs.Masks.{written-in-masks}
+use Rattle.kept.proofs.Lengths.{counted-long, uncounted-long}
+use Rattle.kept.proofs.Sane.{Sane, status-sane, idle-sane, begun-sane}
+
+-- ---- what begins has its row in the array
+
+-- ---- requests
+
+counts-sane : (g : Geometry) (l : List ℕ) (m : Machine) → length l ≡ rows g → Sane g m → Sane g (withCounts l m)
+counts-sane g l m e h = record { masks = h .masks; high = h .high; ready = h .ready; fits = h .fits; counts = e }
+
+-- a request keeps soundness if its beginning does, and if its fail bit stays below bit 4 and leaves OIP alone
+requested-sane : (g : Geometry) (f : Fate) (go : Machine → Machine) (fail : ℕ → ℕ) (m : Machine)
+    → ((c : ℕ) → c < 2 → (fail c / 16 ≡ 0) × (fail c % 2 ≡ c % 2))
+    → ((m : Machine) → begins? f ≡ true → Sane g m → Sane g (go m))
+    → Sane g m → Sane g (requested f go fail m)
+requested-sane g f go fail m q k h =
+    cond-keep (Sane g) (wel c)
+    (λ e. cond-keep (Sane g) (begins? f)
+    (λ e. k (withStatus (requestCleared c) m) e (status-sane g (requestCleared c) m (omega (arith, h .high)) (omega arith) h))
+    (λ e. status-sane g (fail (requestCleared c)) m (q (requestCleared c) (omega (arith, h .high)) .0) (q (requestCleared c) (omega (arith, h .high)) .1 ∙ omega arith) h))
+    (λ e. h)
+  where
+    c : ℕ
+    c = m .state .regs .c0
+
+module _ (g : Geometry) (s : Sound g) where
+  programs-sane : (r : Row) (m : Machine) → Sane g m → Sane g (programs g (stepping g) r m)
+  unfolding programs stepping
+  programs-sane r m h =
+      requested-sane g (programFate g (m .state .regs .a0) r (m .counts)) (λ m′. begins (Program r) (withCounts (counted r (m′ .counts)) m′)) pFailSet m
+      (λ c b. (omega arith, omega arith))
+      (λ m′ e h′. begun-sane g s (Program r) (withCounts (counted r (m′ .counts)) m′) (program-begins g (m .state .regs .a0) r (m .counts) e .0)
+      (counts-sane g (counted r (m′ .counts)) m′ (counted-long r (m′ .counts) ∙ h′ .counts) h′))
+      h
+
+  erases-sane : (r : Row) (m : Machine) → Sane g m → Sane g (erases g (stepping g) r m)
+  unfolding erases stepping
+  erases-sane r m h =
+      requested-sane g (eraseFate g (m .state .regs .a0) r) (λ m′. begins (Erase r) (withCounts (uncounted g r (m′ .counts)) m′)) eFailSet m
+      (λ c b. (omega arith, omega arith))
+      (λ m′ e h′. let i : r .0 < rows g = erase-inside g (m .state .regs .a0) r e in
+      begun-sane g s (Erase r) (withCounts (uncounted g r (m′ .counts)) m′) i
+      (counts-sane g (uncounted g r (m′ .counts)) m′ (uncounted-long g s r (m′ .counts) i (h′ .counts)) h′))
+      h
+
+  -- what each instruction does
+  effect-sane : (i : Instruction) (m : Machine) → Sane g m → Sane g (effect g (stepping g) i m)
+  unfolding effect resets stepping registerWritten
+  effect-sane WriteEnable m h = status-sane g (welSet (m .state .regs .c0)) m (omega (arith, h .high)) (omega arith) h
+  effect-sane WriteDisable m h = status-sane g (welCleared (m .state .regs .c0)) m (omega (arith, h .high)) (omega arith) h
+  effect-sane SetFeature m h =
+      let t : Transfer = m .state .bus .transfer in
+      record {
+        masks = written-in-masks g (m .state .bus .pins) (t .first) (t .second) (m .state .regs) (h .masks);
+        high = h .high;
+        ready = h .ready;
+        fits = h .fits;
+        counts = h .counts;
+      }
+  effect-sane PageRead m h = begun-sane g s (Read (rowOf (m .state .bus .transfer))) m tt h
+  effect-sane Execute m h = programs-sane (rowOf (m .state .bus .transfer)) m h
+  effect-sane BlockErase m h = erases-sane (rowOf (m .state .bus .transfer)) m h
+  effect-sane Reset m h = idle-sane g (resetStatus (m .state .regs .c0)) m (omega arith) (omega arith) h
+  effect-sane Ignored m h = h
+  effect-sane GetFeature m h = h
+  effect-sane ReadId m h = h
+  effect-sane ReadCache m h = h
+  effect-sane Load m h = h
+  effect-sane LoadRandom m h = h
+
+  pub acted-sane : (m : Machine) → Sane g m → Sane g (acted g (stepping g) m)
+  unfolding acted
+  acted-sane m h = cond-keep (Sane g) (full (m .state .bus .transfer)) (λ e. effect-sane (m .state .bus .transfer .instruction) m h) (λ e. h)

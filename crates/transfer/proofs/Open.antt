@@ -1,0 +1,15 @@
+-- The three first bytes that a busy array lets in.
+use mathlib.Core.Bool.{Bool, true, false}
+use mathlib.Core.List.{[], _∷_}
+use mathlib.Core.Logic.{⊎-elim, inl, inr}
+use mathlib.Core.Path.{_≡_, refl}
+use Prim.Native.Nat.{ℕ}
+use types.Run.{OneOf}
+use borrow.Author.Tests.{ne-eqb}
+use Rattle.transfer.specs.Transfer.{open?}
+
+pub let-in : (b : ℕ) → OneOf (0x0F ∷ 0x9F ∷ 0xFF ∷ []) b → open? b ≡ true
+let-in b = ⊎-elim (λ e. rw e) (⊎-elim (λ e. rw e) (λ e. rw e))
+
+pub shut-out : (b : ℕ) → (OneOf (0x0F ∷ 0x9F ∷ 0xFF ∷ []) b → ⊥) → open? b ≡ false
+shut-out b n = rw (ne-eqb b 0x0F (λ e. n (inl e)), ne-eqb b 0x9F (λ e. n (inr (inl e))), ne-eqb b 0xFF (λ e. n (inr (inr e))))
