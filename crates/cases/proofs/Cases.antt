@@ -1,7 +1,7 @@
 -- The cases hold, by computation.
 use mathlib.Core.Path.{refl}
 use Rattle.part.specs.Protection.{protects}
-use Rattle.registers.specs.Registers.{register, registerWritten}
+use Rattle.registers.specs.Registers.{registerWritten}
 use Rattle.transfer.specs.Transfer.{instructionOf, selects, shiftedIn, cached}
 use Rattle.array.specs.Jobs.{written}
 use Rattle.device.specs.Work.{unitOf, units, stepping}

@@ -9,7 +9,7 @@ use Rattle.part.specs.Part.{bench, fm25s005bi3}
 use Rattle.part.specs.Protection.{protects}
 use Rattle.part.specs.declared.Geometry.{Geometry}
 use Rattle.buslog.specs.declared.Record.{Record}
-use Rattle.buslog.specs.declared.Record.the-variants.{Select, Shift, Deselect, Units, Level, Power}
+use Rattle.buslog.specs.declared.Record.the-variants.{Select, Shift, Deselect, Units, Power}
 use Rattle.transfer.specs.Transfer.{fresh}
 use Rattle.array.specs.Jobs.{Store, withCache}
 use Rattle.array.specs.declared.Work.the-variants.{Idle}

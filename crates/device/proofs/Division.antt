@@ -1,11 +1,11 @@
 -- A quotient below a number, without its product: the test that an erase has a unit left.
 use mathlib.Core.Bool.{Bool, true, false}
-use mathlib.Core.Path.{_≡_, refl, sym}
+use mathlib.Core.Path.{_≡_, refl}
 use Prim.Native.Nat.{ℕ, _*_, _/_, _<_}
 use native.Mathlib.Nat.{div-lt-iff-lt-mul}
 use native.Mathlib.Omega.{arith}
 use lib.Dec.{ltb}
-use borrow.Author.Tests.{ltb-true, ltb-false, lt-ltb, le-ltb}
+use borrow.Author.Tests.{ltb-true, ltb-false, lt-ltb}
 
 pub div-ltb : (a p k : ℕ) → 0 < p → ltb (a / p) k ≡ ltb a (k * p)
 div-ltb a p k h = go (ltb a (k * p)) refl

@@ -1,9 +1,8 @@
 -- n units of an operation in progress: its writes as far as it goes, and the state when it has come so far.
-use mathlib.Core.Bool.{Bool, true, false, cond}
-use mathlib.Core.List.{List}
-use mathlib.Core.Path.{_≡_, refl, sym, ap, ap₂, _∙_}
+use mathlib.Core.Bool.{Bool, true, false}
+use mathlib.Core.Path.{_≡_, refl, ap, _∙_}
 use Prim.Native.Nat.{ℕ, zero, suc, _+_, _-_, _≤_, _<_, min}
-use native.Mathlib.Nat.{zero-min, add-zero}
+use native.Mathlib.Nat.{add-zero}
 use native.Mathlib.Omega.{arith}
 use lib.Dec.{ltb}
 use borrow.Author.Tests.{lt-ltb, le-ltb, ltb-true, ltb-false}
@@ -14,7 +13,7 @@ use Rattle.array.specs.declared.Work.{Work}
 use Rattle.array.specs.declared.Work.the-variants.{Idle, Busy}
 use Rattle.device.specs.declared.State.{State}
 use Rattle.device.specs.Machine.{Machine, workIn, withState, withStore, withWork}
-use Rattle.device.specs.Work.{ended, unitOf, units, workedState}
+use Rattle.device.specs.Work.{unitOf, units, workedState}
 
 -- with no operation in progress units do nothing
 pub units-idle : (g : Geometry) (n : ℕ) (m : Machine) → m .state .work ≡ Idle → units g n m ≡ m

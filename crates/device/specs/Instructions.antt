@@ -1,5 +1,5 @@
 -- Document 01, "Instructions": a byte shifted in with its answer on DO, and what an instruction does as chip select rises.
-use mathlib.Core.Bool.{Bool, true, false, not, _&&_}
+use mathlib.Core.Bool.{Bool, true, false, not}
 use mathlib.Core.List.{List, _++_}
 use mathlib.Core.Path.{_≡_}
 use Prim.Native.Nat.{ℕ, _+_, _*_}
@@ -12,11 +12,9 @@ use Rattle.part.specs.declared.Geometry.{Geometry}
 use Rattle.part.specs.declared.Row.{Row}
 use Rattle.registers.specs.Registers.{oip, wel, welSet, welCleared, requestCleared, eFailSet, pFailSet, resetStatus, register, registerWritten}
 use Rattle.transfer.specs.Transfer.{is, bodyHeard, shiftedIn, cached, rowOf, ends, full}
-use Rattle.transfer.specs.declared.Transfer.{Transfer}
 use Rattle.transfer.specs.declared.Instruction.{Instruction}
 use Rattle.transfer.specs.declared.Instruction.the-variants.{Ignored, WriteEnable, WriteDisable, GetFeature, SetFeature, ReadId, PageRead, ReadCache, Load, LoadRandom, Execute, BlockErase, Reset}
 use Rattle.array.specs.Jobs.{withCache, inside}
-use Rattle.array.specs.declared.Job.{Job}
 use Rattle.array.specs.declared.Job.the-variants.{Read, Program, Erase}
 use Rattle.array.specs.declared.Work.the-variants.{Idle}
 use Rattle.device.specs.declared.Fate.{Fate}

@@ -1,8 +1,8 @@
 -- Document 01, "Numbers of refusal": a sound state.
-use mathlib.Core.Bool.{Bool, true, false, not, _&&_, _||_}
+use mathlib.Core.Bool.{Bool, true, not, _&&_, _||_}
 use mathlib.Core.Logic.{_↔_}
 use mathlib.Core.Path.{_≡_}
-use Prim.Native.Nat.{ℕ, _/_, _≤_, _<_}
+use Prim.Native.Nat.{ℕ, _/_, _≤_}
 use lib.Bits.{bitAnd}
 use lib.Dec.{T, leb, ltb, eqb}
 use Rattle.part.specs.declared.Geometry.{Geometry}

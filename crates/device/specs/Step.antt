@@ -1,11 +1,10 @@
 -- The step: what each record of the log does to the machine; and power lost and back.
-use mathlib.Core.Bool.{Bool, true, false}
+use mathlib.Core.Bool.{true, false}
 use mathlib.Core.List.{List, [], _∷_}
 use Prim.Native.Nat.{ℕ}
 use lib.Dec.{eqb}
 use lib.ListN.{length, replicate}
 use Rattle.part.specs.declared.Geometry.{Geometry}
-use Rattle.part.specs.declared.Row.{Row}
 use Rattle.buslog.specs.declared.Record.{Record}
 use Rattle.buslog.specs.declared.Record.the-variants.{Select, Shift, Deselect, Units, Level, Power}
 use Rattle.array.specs.Jobs.{withCache}

@@ -1,5 +1,4 @@
 -- Document 01, "Work of the array": an operation begins, does its units and ends. (What a unit writes stands with the array.)
-use mathlib.Core.Bool.{Bool}
 use Prim.Native.Nat.{ℕ, zero, suc}
 use lib.Dec.{ltb}
 use Rattle.part.specs.Choice.{if_then_else_}

@@ -1,15 +1,11 @@
 -- What an instruction does as chip select rises keeps all but the bus sound: a request begins only for a row in the array.
-use mathlib.Core.Bool.{Bool, true, false, not}
+use mathlib.Core.Bool.{true}
 use mathlib.Core.List.{List}
-use mathlib.Core.Path.{_≡_, refl, sym, subst, _∙_}
+use mathlib.Core.Path.{_≡_, _∙_}
 use Prim.Native.Nat.{ℕ, _/_, _%_, _<_}
 use native.Mathlib.Omega.{arith}
-use lib.Dec.{T, leb}
 use lib.ListN.{length}
-use borrow.Author.Tests.{ltb-true}
-use Rattle.part.specs.Choice.{if_then_else_}
-use Rattle.part.specs.Part.{rows, block, Sound}
-use Rattle.part.specs.Protection.{protects}
+use Rattle.part.specs.Part.{rows, Sound}
 use Rattle.part.specs.declared.Geometry.{Geometry}
 use Rattle.part.specs.declared.Row.{Row}
 use Rattle.part.proofs.Choice.{cond-keep}
@@ -18,7 +14,6 @@ use Rattle.transfer.specs.Transfer.{rowOf, full}
 use Rattle.transfer.specs.declared.Transfer.{Transfer}
 use Rattle.transfer.specs.declared.Instruction.{Instruction}
 use Rattle.transfer.specs.declared.Instruction.the-variants.{Ignored, WriteEnable, WriteDisable, GetFeature, SetFeature, ReadId, PageRead, ReadCache, Load, LoadRandom, Execute, BlockErase, Reset}
-use Rattle.array.specs.Jobs.{inside}
 use Rattle.array.specs.declared.Job.the-variants.{Read, Program, Erase}
 use Rattle.device.specs.Machine.{Machine, withStatus, withCounts}
 use Rattle.device.specs.Work.{begins, stepping}

@@ -1,13 +1,11 @@
 -- Laws of the part: the soundness test says what the record says, both named parts are sound, and how many blocks can be protected.
-use mathlib.Core.Bool.{Bool, true, false, _&&_}
+use mathlib.Core.Bool.{Bool, _&&_}
 use mathlib.Core.Logic.{_↔_}
-use mathlib.Core.Path.{_≡_, refl}
-use Prim.Native.Nat.{ℕ, _-_, _/_, _^_, _≤_}
+use Prim.Native.Nat.{ℕ, _-_, _^_, _≤_}
 use native.Mathlib.Nat.{div-le-self}
 use native.Mathlib.Omega.{arith}
 use lib.Dec.{T, leb, eqb, leb→le}
 use borrow.Author.Tests.{le-leb}
-use Rattle.part.specs.Choice.{if_then_else_}
 use Rattle.part.specs.Part.{page, rows, Sound, soundPart, bench, fm25s005bi3}
 use Rattle.part.specs.Protection.{guarded}
 use Rattle.part.specs.declared.Geometry.{Geometry}

@@ -1,8 +1,5 @@
-use Prim.Native.Nat.{_<_}
 use mathlib.Core.Path.{_≡_, sym, _∙_, ap}
 use mathlib.Core.Bool.{true}
-use Rattle.part.specs.Part.{rows}
-use Rattle.device.specs.declared.Fate.{Fate}
 -- The fate of a program: that of an erase, and then the count.
 use native.Mathlib.Omega.{arith}
 use denote.Ref.{now}

@@ -2,7 +2,6 @@ use Rattle.part.specs.Part.{block}
 -- The counts of a block made 0: the block's stretch lies within the counts.
 use native.Mathlib.Omega.{arith}
 use native.Mathlib.Nat.{add-sub-cancel-left}
-use mathlib.Core.Path.{_≡_}
 use Prim.Native.Nat.{_+_, _*_, _≤_, _<_}
 use denote.Ref.{now}
 use lib.ListN.{length, drop, length-drop}

@@ -1,11 +1,10 @@
 -- n units: the array does them, and the state says where it has come to.
-use mathlib.Core.Path.{_≡_, sym, ap, ap₂, _∙_}
+use mathlib.Core.Path.{sym, ap₂, _∙_}
 use denote.Ref.{now}
-use Rattle.array.specs.Jobs.{Store, store, many, onward, Ready}
+use Rattle.array.specs.Jobs.{Store}
 use Rattle.array.specs.declared.Work.{Work}
-use Rattle.device.specs.declared.State.{State}
-use Rattle.device.specs.Machine.{Machine, machine, withState, withStore}
-use Rattle.device.specs.Work.{units, workedState}
+use Rattle.device.specs.Machine.{machine, withState, withStore}
+use Rattle.device.specs.Work.{workedState}
 use Rattle.device.proofs.Units.{units-idle, units-busy}
 use borrow.Author.Needs.{needs}
 use Rattle.device.proofs.State.work.Statement.{statement}

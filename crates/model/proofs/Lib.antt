@@ -1,0 +1,6 @@
+pub mod Rooms
+pub mod Turns
+pub mod Loop
+pub mod Checked
+pub mod Single
+pub mod OneAnswer
