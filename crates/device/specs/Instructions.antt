@@ -51,7 +51,7 @@ answer g s cache =
 
 -- ---- 10h and D8h
 
--- what becomes of a request to program or to erase: it begins, or fails for the first true reason
+-- a request to program or to erase begins, or fails for the first true reason
 abbrev pub begins? : Fate → Bool
 begins? Begins = true
 begins? ByRow = false
@@ -70,6 +70,7 @@ usedOf r counts = getD counts (r .0) 0
 unfoldable pub programFate : Geometry → ℕ → Row → List ℕ → Fate
 programFate g a0 r counts = barred g a0 r (if leb 4 (usedOf r counts) then ByCount else Begins)
 
+-- D8h asks no more
 unfoldable pub eraseFate : Geometry → ℕ → Row → Fate
 eraseFate g a0 r = barred g a0 r Begins
 
@@ -88,10 +89,12 @@ requested f go fail m =
     if wel (m .state .regs .c0) then if begins? f then go (withStatus c m) else withStatus (fail c) m
     else m
 
+-- 10h: the count rises by 1 and the operation begins, or P_FAIL is set
 unfoldable pub programs : Geometry → Array → Row → Machine → Machine
 programs g arr r m =
     requested (programFate g (m .state .regs .a0) r (m .counts)) (λ m. arr .begin (Program r) (withCounts (counted r (m .counts)) m)) pFailSet m
 
+-- D8h: the block's counts become 0 and it begins, or E_FAIL is set
 unfoldable pub erases : Geometry → Array → Row → Machine → Machine
 erases g arr r m =
     requested (eraseFate g (m .state .regs .a0) r) (λ m. arr .begin (Erase r) (withCounts (uncounted g r (m .counts)) m)) eFailSet m
@@ -103,10 +106,11 @@ pub record CountsReady (g : Geometry) (counts : List ℕ) : Type 0 where
 
 -- ---- FFh
 
--- a reset stops an operation after the units done, and is over at once
+-- no operation is in progress, and only WEL is left of the status register
 abbrev pub resetState : State → State
 resetState s = workIn Idle (statusIn (resetStatus (s .regs .c0)) s)
 
+-- a reset stops an operation after the units done, and is over at once
 unfoldable pub resets : Array → Machine → Machine
 resets arr m = let m₁ = arr .cut m in withState (resetState (m₁ .state)) m₁
 

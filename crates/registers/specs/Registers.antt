@@ -10,12 +10,14 @@ use Rattle.registers.specs.declared.Pins.{Pins}
 
 -- ---- the status register, C0h: 0 OIP, 1 WEL, 2 E_FAIL, 3 P_FAIL, 6-4 ECCS
 
+-- OIP is 1; WEL is 1
 abbrev pub oip : ℕ → Bool
 oip c = eqb (c % 2) 1
 
 abbrev pub wel : ℕ → Bool
 wel c = eqb (c / 2 % 2) 1
 
+-- one bit set or cleared, the others as they were
 abbrev pub oipSet : ℕ → ℕ
 oipSet c = c / 2 * 2 + 1
 
