@@ -1,0 +1,4 @@
+pub mod Texts
+pub mod Laid
+pub mod OneAnswer
+pub mod Examples
