@@ -2,5 +2,4 @@ pub mod Steps
 pub mod Loop
 pub mod Room
 pub mod Stores
-pub mod Keeps
 pub mod OneAnswer

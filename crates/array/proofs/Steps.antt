@@ -1,4 +1,4 @@
--- Laws of steps: one more and none, what they keep, two runs side by side, and steps on a part of a list that is laid back.
+-- Laws of steps: one more and none, two runs side by side, and steps on a part of a list that is laid back.
 use mathlib.Core.List.{List, _++_}
 use mathlib.Core.Path.{_≡_}
 use Prim.Native.Nat.{ℕ, zero, suc, _+_, _-_, _≤_, _<_}
@@ -17,12 +17,6 @@ module _ {A : Type 0} (f : ℕ → A → A) where
   pub no-more : (i m : ℕ) (x : A) → m ≤ i → steps f i (m - i) x ≡ x
   unfolding steps
   no-more i m x h = let q : m - i ≡ 0 = omega arith in rw q
-
-  -- what each step keeps
-  pub kept : (P : A → Type 0) → ((i : ℕ) (x : A) → P x → P (f i x)) → (n i : ℕ) (x : A) → P x → P (steps f i n x)
-  unfolding steps
-  kept P k zero i x p = p
-  kept P k (suc n) i x p = kept P k n (suc i) (f i x) (k i x p)
 
 -- steps below m on two sides: what each step carries over, a run carries over
 pub beside : {A B : Type 0} (f : ℕ → A → A) (h : ℕ → B → B) (R : A → B → Type 0) (m : ℕ) → ((i : ℕ) (x : A) (y : B) → i < m → R x y → R (f i x) (h i y))

@@ -9,7 +9,6 @@ use part::Row;
 use registers::Pins;
 use registers::Registers;
 use transfer::Bus;
-use transfer::Instruction;
 use transfer::Transfer;
 
 // The numbers of a setup, each at its place below, and the place of the one that is being read.
@@ -151,7 +150,7 @@ impl Setup {
     }
 
     fn transfer(self) -> Transfer {
-        let instruction = instruction(self.byte(CODE));
+        let instruction = transfer::instruction_of(self.byte(CODE));
         let column = Column(self.short(COLUMN));
         Transfer {
             selected: self.number(SELECTED) == 1,
@@ -185,24 +184,5 @@ impl Setup {
         let bus = Bus { pins, transfer };
         let work = self.work();
         State { regs, bus, work }
-    }
-}
-
-// The instruction of a code; one that is unknown is being ignored.
-fn instruction(code: u8) -> Instruction {
-    match code {
-        0x06 => Instruction::WriteEnable,
-        0x04 => Instruction::WriteDisable,
-        0x0F => Instruction::GetFeature,
-        0x1F => Instruction::SetFeature,
-        0x9F => Instruction::ReadId,
-        0x13 => Instruction::PageRead,
-        0x03 | 0x0B => Instruction::ReadCache,
-        0x02 => Instruction::Load,
-        0x84 => Instruction::LoadRandom,
-        0x10 => Instruction::Execute,
-        0xD8 => Instruction::BlockErase,
-        0xFF => Instruction::Reset,
-        _ => Instruction::Ignored,
     }
 }
