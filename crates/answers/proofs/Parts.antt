@@ -3,6 +3,7 @@ use mathlib.Core.List.{List, _++_}
 use mathlib.Core.Path.{_≡_, ap, subst, _∙_}
 use Prim.Native.Nat.{ℕ, _-_}
 use lib.ListN.{length}
+use Rattle.part.specs.Part.{Sound}
 use Rattle.part.specs.declared.Geometry.{Geometry}
 use Rattle.part.proofs.Choice.{cond-keep}
 use Rattle.buslog.specs.Read.{Parsed, parse}
@@ -26,23 +27,25 @@ use Rattle.answers.proofs.Logs.{stops-parse}
 use Rattle.answers.proofs.Checks.{fine}
 use Rattle.answers.proofs.Lines.{is-fine, is-stop, exactly}
 
+-- the checks 1 to 5 hold exactly of a sound machine on a sound part
 module _ (g : Geometry) (m : Machine) where
-  sound-of : Fine g m → SoundMachine g m
+  pub sound-of : Fine g m → SoundMachine g m
   sound-of f =
       let c = f .before in
       record { state = f .state; fits = record { cells-long = c .before .before .cells; cache-long = c .before .cache }; counts-long = c .counts }
 
-  -- after any records whose shifts carry bytes, all the checks hold again
-  fine-after : Fine g m → (es : List Record) → BytesIn es → Fine g (run g (stepping g) m es)
-  fine-after f es b =
-      let s : SoundMachine g (run g (stepping g) m es) = run-keeps g (f .before .before .before .part) m es b (sound-of f) in
+  pub fine-of : Sound g → SoundMachine g m → Fine g m
+  fine-of p s =
       record {
-        before = record {
-          before = record { before = record { part = f .before .before .before .part; cells = s .fits .cells-long }; cache = s .fits .cache-long };
-          counts = s .counts-long;
-        };
+        before = record { before = record { before = record { part = p; cells = s .fits .cells-long }; cache = s .fits .cache-long }; counts = s .counts-long };
         state = s .state;
       }
+
+-- after any records whose shifts carry bytes, all the checks hold again
+fine-after : (g : Geometry) (m : Machine) → Fine g m → (es : List Record) → BytesIn es → Fine g (run g (stepping g) m es)
+fine-after g m f es b =
+    let p : Sound g = f .before .before .before .part in
+    fine-of g (run g (stepping g) m es) p (run-keeps g p m es b (sound-of g m f))
 
 pub returns-sound : ReturnsSound
 unfolding runOf ranOf run
@@ -51,7 +54,7 @@ returns-sound g room log h m s =
     (λ e. fine-after g m (fine g m e) (fitting room (parse log .records)) (bytes-fitting room (parse log .records) (bytes-read log h)) .state) (λ e. s)
 
 -- a log read to its end: all the checks hold, and it stops at its end
-ended : (g : Geometry) (room : ℕ) (log : List ℕ) (m : Machine) → Line g room log m 0 → Fine g m × Stops log room 0
+pub ended : (g : Geometry) (room : ℕ) (log : List ℕ) (m : Machine) → Line g room log m 0 → Fine g m × Stops log room 0
 ended g room log m (read-to-its-end f s) = (f, s)
 
 -- one run and then the other, where all the checks hold again as the second begins

@@ -24,8 +24,6 @@ use Rattle.kept.proofs.Masks.{written-in-masks}
 use Rattle.kept.proofs.Lengths.{counted-long, uncounted-long}
 use Rattle.kept.proofs.Sane.{Sane, status-sane, idle-sane, begun-sane}
 
--- ---- what begins has its row in the array
-
 -- ---- requests
 
 counts-sane : (g : Geometry) (l : List ℕ) (m : Machine) → length l ≡ rows g → Sane g m → Sane g (withCounts l m)

@@ -1,0 +1,31 @@
+-- Demand 3 as a theorem about `model::run` itself: whatever result and exit contents its contract allows.
+use lib.Dec.{T}
+use borrow.Fn.Kinds.{Dens, resT, endedOf}
+use contract.Lifetimes.{Lfts}
+use denote.Ref.{now}
+use denote.Triple.Clauses.{AtExit}
+use Rattle.buslog.specs.Log.{Bytes}
+use Rattle.model.specs.Runs.{End, ended}
+use Rattle.model.proofs.run.Reads as run-reads
+use Rattle.model.proofs.run.Kinds as run-kinds
+use Rattle.whole.specs.Demand.{Given, supposed, SameEnd}
+use Rattle.whole.proofs.Demand3.{demand-3}
+
+module _ (κs : Lfts 5) (a : Dens κs run-kinds.ps) (x : resT run-kinds.r κs .Denot) (s : AtExit (endedOf 5 run-kinds.ps run-kinds.r) κs) where
+  -- the arguments, and what came back
+  abbrev handed : Given
+  handed = record {
+    part = a .0;
+    state = a .1 .0;
+    log = now (a .1 .1 .0);
+    cells = now (a .1 .1 .1 .0);
+    cache = now (a .1 .1 .1 .1 .0);
+    counts = now (a .1 .1 .1 .1 .1 .0);
+    out = now (a .1 .1 .1 .1 .1 .1 .0);
+  }
+
+  abbrev returned : End
+  returned = ended x (now (s .1 .1 .1 .0)) (now (s .1 .1 .1 .1 .0)) (now (s .1 .1 .1 .1 .1 .0)) (now (s .1 .1 .1 .1 .1 .1 .0))
+
+  pub about-run : run-reads.Post κs a x s → Bytes (handed .log) → T (supposed handed returned) → SameEnd handed returned
+  about-run p h t = demand-3 handed h returned p t

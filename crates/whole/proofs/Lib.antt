@@ -1,0 +1,10 @@
+pub mod Pages
+pub mod Finish
+pub mod Quiet
+pub mod Events
+pub mod Start
+pub mod Follow
+pub mod Demand3
+pub mod However
+pub mod AboutRun
+pub mod Examples

@@ -1,0 +1,4 @@
+pub mod Whole
+pub mod Orderly
+pub mod Demand
+pub mod Examples
