@@ -8,21 +8,14 @@ use Rattle.buslog.specs.Log.{Bytes}
 use Rattle.model.specs.Runs.{End, ended}
 use Rattle.model.proofs.run.Reads as run-reads
 use Rattle.model.proofs.run.Kinds as run-kinds
-use Rattle.whole.specs.Demand.{Given, supposed, SameEnd}
+use Rattle.whole.specs.Demand.{Given, given, supposed, SameEnd}
 use Rattle.whole.proofs.Demand3.{demand-3}
 
 module _ (κs : Lfts 5) (a : Dens κs run-kinds.ps) (x : resT run-kinds.r κs .Denot) (s : AtExit (endedOf 5 run-kinds.ps run-kinds.r) κs) where
   -- the arguments, and what came back
   abbrev handed : Given
-  handed = record {
-    part = a .0;
-    state = a .1 .0;
-    log = now (a .1 .1 .0);
-    cells = now (a .1 .1 .1 .0);
-    cache = now (a .1 .1 .1 .1 .0);
-    counts = now (a .1 .1 .1 .1 .1 .0);
-    out = now (a .1 .1 .1 .1 .1 .1 .0);
-  }
+  handed =
+      given (a .0) (a .1 .0) (now (a .1 .1 .0)) (now (a .1 .1 .1 .0)) (now (a .1 .1 .1 .1 .0)) (now (a .1 .1 .1 .1 .1 .0)) (now (a .1 .1 .1 .1 .1 .1 .0))
 
   abbrev returned : End
   returned = ended x (now (s .1 .1 .1 .0)) (now (s .1 .1 .1 .1 .0)) (now (s .1 .1 .1 .1 .1 .0)) (now (s .1 .1 .1 .1 .1 .1 .0))

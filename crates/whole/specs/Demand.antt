@@ -35,12 +35,18 @@ pub record Given : Type 0 where
   pub counts : List ℕ
   pub out : List ℕ
 
+abbrev pub given : Geometry → State → List ℕ → List ℕ → List ℕ → List ℕ → List ℕ → Given
+given g s log cells cache counts out = record { part = g; state = s; log = log; cells = cells; cache = cache; counts = counts; out = out }
+
 abbrev pub machineOf : Given → Machine
 machineOf i = machine (i .state) (i .cells) (i .cache) (i .counts)
 
--- what `run` returned and left, by its contract
+-- what `run` returns and leaves, by its contract
+abbrev pub endOf : Given → End
+endOf i = shown (runOf (i .part) (stepping (i .part)) (length (i .out)) (i .log) (machineOf i)) (i .out)
+
 abbrev pub Ran : Given → End → Type 0
-Ran i e = e ≡ shown (runOf (i .part) (stepping (i .part)) (length (i .out)) (i .log) (machineOf i)) (i .out)
+Ran i e = e ≡ endOf i
 
 -- the whole run of the same log, with the same room for output
 abbrev pub wholly : Given → Outcome
@@ -94,7 +100,7 @@ busOnly (Power ∷ es) = Power ∷ busOnly es
 
 -- the same but for the log
 abbrev pub withLog : List ℕ → Given → Given
-withLog l i = record { part = i .part; state = i .state; log = l; cells = i .cells; cache = i .cache; counts = i .counts; out = i .out }
+withLog l i = given (i .part) (i .state) l (i .cells) (i .cache) (i .counts) (i .out)
 
 -- one end: of two runs, the state, the memory, and each output byte that is no status answer
 pub record OneEnd (i : Given) (e f : End) : Type 0 where

@@ -3,7 +3,7 @@ use mathlib.Core.Bool.{Bool, false}
 use mathlib.Core.List.{List, [], _∷_, _++_}
 use mathlib.Core.Path.{_≡_}
 use Prim.Native.Nat.{ℕ}
-use lib.ListN.{length, take, replicate}
+use lib.ListN.{take, replicate}
 use Rattle.part.specs.Part.{bench}
 use Rattle.buslog.specs.Log.{written}
 use Rattle.buslog.specs.declared.Record.{Record}
@@ -11,23 +11,18 @@ use Rattle.buslog.specs.declared.Record.the-variants.{Units, Power}
 use Rattle.array.specs.declared.Job.the-variants.{Erase}
 use Rattle.array.specs.declared.Work.the-variants.{Busy}
 use Rattle.device.specs.Machine.{workIn, statusIn}
-use Rattle.device.specs.Work.{stepping}
 use Rattle.device.specs.Step.{powerUp}
 use Rattle.device.specs.declared.State.{State}
 use Rattle.cases.specs.Cases.{Case, _·_⇒_, send, blank, told, idleWith, number, sameList, wrong}
 use Rattle.model.specs.Refusals.{numberOf}
-use Rattle.model.specs.Runs.{runOf, End, shown}
 use Rattle.whole.specs.Orderly.{idle, orderly, powerUpAt, starts}
-use Rattle.whole.specs.Demand.{Given, machineOf, wholly, recordsDone}
+use Rattle.whole.specs.Demand.{Given, given, machineOf, endOf, wholly, recordsDone}
 
 -- ---- what is handed to `run`, and what it gives
 
 -- a log on the bench part: cells that tell where they are, a cache register of some content, counts 0, room for 64 bytes of output
 abbrev pub on : State → List Record → Given
-on s es = record { part = bench; state = s; log = written es; cells = told; cache = replicate 20 0x77; counts = replicate 32 0; out = replicate 64 0 }
-
-abbrev pub endOf : Given → End
-endOf i = shown (runOf (i .part) (stepping (i .part)) (length (i .out)) (i .log) (machineOf i)) (i .out)
+on s es = given bench s (written es) told (replicate 20 0x77) (replicate 32 0) (replicate 64 0)
 
 -- an end told in numbers
 abbrev pub numbers : State → List ℕ → List ℕ → List ℕ → List ℕ
