@@ -6,6 +6,8 @@ use denote.Ref.{now}
 use Rattle.part.specs.OneAnswer.{OneAnswer, OneEnd}
 use Rattle.transfer.proofs.instruction_of.Reads as instruction-of-reads
 use Rattle.transfer.proofs.instruction_of.Kinds as instruction-of-kinds
+use Rattle.transfer.proofs.byte_of.Reads as byte-of-reads
+use Rattle.transfer.proofs.byte_of.Kinds as byte-of-kinds
 use Rattle.transfer.proofs.Transfer.fresh.Reads as fresh-reads
 use Rattle.transfer.proofs.Transfer.fresh.Kinds as fresh-kinds
 use Rattle.transfer.proofs.Transfer.is.Reads as is-reads
@@ -29,6 +31,9 @@ use Rattle.transfer.proofs.Bus.caches.Kinds as caches-kinds
 
 pub instruction-of-one : OneAnswer 0 instruction-of-kinds.ps instruction-of-kinds.r instruction-of-reads.Post
 instruction-of-one κs a x y s t p q = p ∙ sym q
+
+pub byte-of-one : OneAnswer 0 byte-of-kinds.ps byte-of-kinds.r byte-of-reads.Post
+byte-of-one κs a x y s t p q = p ∙ sym q
 
 pub fresh-one : OneAnswer 0 fresh-kinds.ps fresh-kinds.r fresh-reads.Post
 fresh-one κs a x y s t p q = p ∙ sym q

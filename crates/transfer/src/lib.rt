@@ -65,7 +65,7 @@ pub fn instruction_of(b: u8) -> Instruction
 }
 
 // The byte of an instruction; 256, which is none, for what is ignored.
-fn byte_of(i: Instruction) -> u16
+pub fn byte_of(i: Instruction) -> u16
     ensures { λ r. ⌜ r ≡ byteOf i ⌝ }
 {
     match i {

@@ -1,0 +1,5 @@
+pub mod ThereAndBack
+pub mod Refused
+pub mod Quiet
+pub mod Texts
+pub mod OneAnswer

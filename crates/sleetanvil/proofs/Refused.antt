@@ -1,0 +1,66 @@
+-- Numbers that stand for no state: the stand-in is sound on no part, so that a run of it does nothing.
+use mathlib.Core.Bool.{Bool, true, false, cond, not}
+use mathlib.Core.List.{List}
+use mathlib.Core.Path.{_≡_, refl, sym, _∙_, ap}
+use Prim.Native.Nat.{ℕ, _*_}
+use lib.Dec.{eqb}
+use lib.ListN.{length}
+use Rattle.part.specs.Part.{page, rows, soundPart}
+use Rattle.part.specs.declared.Geometry.{Geometry}
+use Rattle.part.proofs.Choice.{cond-no}
+use Rattle.device.specs.Machine.{machine}
+use Rattle.device.specs.Sound.{soundState}
+use Rattle.device.specs.Work.{stepping}
+use Rattle.model.specs.Refusals.{numberOf, checkOf, passed}
+use Rattle.model.specs.Runs as model
+use Rattle.model.specs.Runs.{End, Outcome, runOf, shown}
+use Rattle.model.specs.declared.Refusal.the-variants.{BadPart, BadCells, BadCache, BadCounts, BadState}
+use Rattle.model.proofs.Single.{shown-none}
+use Rattle.sleetanvil.specs.Promises.{BadExactly}
+use Rattle.sleetanvil.specs.Runs.{CEnd, ended, noState, nothing}
+use Rattle.sleetanvil.specs.declared.CState.{CState}
+
+unsound : (g : Geometry) → soundState g noState ≡ false
+unfolding soundState
+unsound g = refl
+
+-- the checks, with the last one out
+stops-at : (g : Geometry) (cells cache counts : ℕ) →
+    checkOf g noState cells cache counts
+    ≡ cond (not (soundPart g)) BadPart (cond (not (eqb cells (rows g * page g))) BadCells (cond (not (eqb cache (page g))) BadCache (cond (not (eqb counts (rows g))) BadCounts BadState)))
+unfolding checkOf
+stops-at g cells cache counts = rw (unsound g)
+
+-- they refuse it
+stops : (g : Geometry) (cells cache counts : ℕ) → passed (checkOf g noState cells cache counts) ≡ false
+stops g cells cache counts = rw (stops-at g cells cache counts) (go (soundPart g) (eqb cells (rows g * page g)) (eqb cache (page g)) (eqb counts (rows g)))
+  where
+    go : (a b c d : Bool) → passed (cond (not a) BadPart (cond (not b) BadCells (cond (not c) BadCache (cond (not d) BadCounts BadState)))) ≡ false
+    go false b c d = refl
+    go true false c d = refl
+    go true true false d = refl
+    go true true true false = refl
+    go true true true true = refl
+
+pub bad-exactly : BadExactly
+bad-exactly g cells cache counts = rw (stops-at g cells cache counts) (go (soundPart g) (eqb cells (rows g * page g)) (eqb cache (page g)) (eqb counts (rows g)))
+  where
+    go : (a b c d : Bool) → numberOf (cond (not a) BadPart (cond (not b) BadCells (cond (not c) BadCache (cond (not d) BadCounts BadState)))) ≡ cond (not a) 1 (cond (not b) 2 (cond (not c) 3 (cond (not d) 4 5)))
+    go false b c d = refl
+    go true false c d = refl
+    go true true false d = refl
+    go true true true false = refl
+    go true true true true = refl
+
+-- so a run of it does nothing
+pub not-run : (g : Geometry) (room : ℕ) (log cells cache counts out : List ℕ) →
+    shown (runOf g (stepping g) room log (machine noState cells cache counts)) out
+    ≡ model.ended (model.nothing (checkOf g noState (length cells) (length cache) (length counts)) noState) cells cache counts out
+unfolding runOf
+not-run g room log cells cache counts out =
+    ap (λ (o : Outcome). shown o out) (cond-no (passed (checkOf g noState (length cells) (length cache) (length counts))) _ _ (stops g (length cells) (length cache) (length counts)))
+    ∙ sym (shown-none g (stepping g) out (machine noState cells cache counts) (checkOf g noState (length cells) (length cache) (length counts)))
+
+-- the model's refusal, and the numbers given back
+abbrev pub refusedAs : CState → End → CEnd
+refusedAs c e = ended (nothing (numberOf (e .answer .refusal)) c) (e .cells) (e .cache) (e .counts) (e .out)

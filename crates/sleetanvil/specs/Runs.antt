@@ -1,0 +1,90 @@
+-- A run, and one event, with the part and the state in plain numbers.
+use mathlib.Core.Bool.{false}
+use mathlib.Core.List.{List, []}
+use Prim.Native.Nat.{ℕ}
+use lib.ListN.{length}
+use Rattle.part.specs.declared.Geometry.{Geometry}
+use Rattle.array.specs.declared.Work.the-variants.{Idle}
+use Rattle.transfer.specs.Transfer.{fresh}
+use Rattle.device.specs.Machine.{machine}
+use Rattle.device.specs.Work.{stepping}
+use Rattle.device.specs.declared.State.{State}
+use Rattle.model.specs.Refusals.{numberOf, checkOf}
+use Rattle.model.specs.Runs.{End, runOf, shown}
+use Rattle.model.specs.declared.Answer.{Answer}
+use Rattle.sleetanvil.specs.Face.{partOf, stateOf, faceOf}
+use Rattle.sleetanvil.specs.declared.CGeometry.{CGeometry}
+use Rattle.sleetanvil.specs.declared.CState.{CState}
+use Rattle.sleetanvil.specs.declared.CAnswer.{CAnswer}
+use Rattle.sleetanvil.specs.declared.Given.{Given}
+use Rattle.sleetanvil.specs.declared.Given.the-variants.{Good, Bad}
+
+-- ---- what the caller sees
+
+-- the answer, and every byte of the lent memory
+pub record CEnd : Type 0 where
+  pub answer : CAnswer
+  pub cells : List ℕ
+  pub cache : List ℕ
+  pub counts : List ℕ
+  pub out : List ℕ
+
+-- the two together
+abbrev pub ended : CAnswer → List ℕ → List ℕ → List ℕ → List ℕ → CEnd
+ended a cells cache counts out = record { answer = a; cells = cells; cache = cache; counts = counts; out = out }
+
+-- the model's answer, its state and its refusal as numbers
+abbrev pub answerOf : Answer → CAnswer
+answerOf a = record { state = faceOf (a .state); records = a .records; used = a .used; written = a .written; refusal = numberOf (a .refusal) }
+
+-- the same of all that a run of the model leaves
+abbrev pub shownAs : End → CEnd
+shownAs e = ended (answerOf (e .answer)) (e .cells) (e .cache) (e .counts) (e .out)
+
+-- ---- a state that no numbers show
+
+-- a state that is sound on no part: its status register has bits above bit 3
+abbrev pub noState : State
+noState = record { regs = record { a0 = 0; b0 = 0; c0 = 0xF0; d0 = 0 }; bus = record { pins = record { wp = false }; transfer = fresh false }; work = Idle }
+
+-- numbers that stand for no state: 1 to 4 are checked as for any state, in their order, and then it is 5
+abbrev pub checkBad : Geometry → ℕ → ℕ → ℕ → ℕ
+checkBad g cells cache counts = numberOf (checkOf g noState cells cache counts)
+
+-- nothing done, and the state's numbers given back as they came
+abbrev pub nothing : ℕ → CState → CAnswer
+nothing refusal c = record { state = c; records = 0; used = 0; written = 0; refusal = refusal }
+
+-- ---- a run
+
+-- a state goes through the model; where there is none, nothing is done
+abbrev pub ranGiven : CGeometry → CState → Given → List ℕ → List ℕ → List ℕ → List ℕ → List ℕ → CEnd
+ranGiven g c (Good s) log cells cache counts out =
+    shownAs (shown (runOf (partOf g) (stepping (partOf g)) (length out) log (machine s cells cache counts)) out)
+ranGiven g c Bad log cells cache counts out =
+    ended (nothing (checkBad (partOf g) (length cells) (length cache) (length counts)) c) cells cache counts out
+
+-- a run of a log, from the part and the state that the numbers stand for
+unfoldable pub ranOf : CGeometry → CState → List ℕ → List ℕ → List ℕ → List ℕ → List ℕ → CEnd
+ranOf g c log cells cache counts out = ranGiven g c (stateOf c) log cells cache counts out
+
+-- ---- an event that puts nothing out: the same without output
+
+-- the answer, and the lent memory but for the output
+pub record CQuiet : Type 0 where
+  pub answer : CAnswer
+  pub cells : List ℕ
+  pub cache : List ℕ
+  pub counts : List ℕ
+
+-- the two together
+abbrev pub quiet : CAnswer → List ℕ → List ℕ → List ℕ → CQuiet
+quiet a cells cache counts = record { answer = a; cells = cells; cache = cache; counts = counts }
+
+-- the output left out
+abbrev pub unheard : CEnd → CQuiet
+unheard e = quiet (e .answer) (e .cells) (e .cache) (e .counts)
+
+-- a run of the log with no output lent
+abbrev pub quietOf : CGeometry → CState → List ℕ → List ℕ → List ℕ → List ℕ → CQuiet
+quietOf g c log cells cache counts = unheard (ranOf g c log cells cache counts [])
