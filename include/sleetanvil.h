@@ -91,7 +91,7 @@ typedef struct sleet_state {
 /* The power-up state: WP# high, the read of row 0 just begun. */
 sleet_state sleet_power_up(void);
 
-/* Whether a state is sound on a part. */
+/* Whether a state is sound on a part. On a part that is not sound it is judged by the part's numbers as they are. */
 bool sleet_state_sound(sleet_geometry part, sleet_state state);
 
 /* ---- a log run ---- */
@@ -140,7 +140,7 @@ typedef struct sleet_record {
 
 typedef struct sleet_found {
     sleet_record record; /* kind 0 where no record stands at the place */
-    uint8_t refusal;     /* then: 0 at the end of the log, 6, 7 or 8 */
+    uint8_t refusal;     /* then: 0 at the end of the log or past it, 6, 7 or 8 */
     size_t place;        /* where the next record begins; the place given where there is none */
 } sleet_found;
 
@@ -148,7 +148,8 @@ typedef struct sleet_found {
 sleet_found sleet_next(const uint8_t *log, size_t log_length, size_t place);
 
 typedef struct sleet_wrote {
-    uint8_t refusal; /* 0; or 6 for a kind not in the table, 8 for a level above 1, 9 for too little room, and then nothing is written */
+    uint8_t refusal; /* 0; or, the first that holds: 6 for a kind not in the table, 8 for a level above 1, 9 for too little room (none past the
+                        end), and then nothing is written */
     size_t place;    /* the place after the record; the place given where it is refused */
 } sleet_wrote;
 

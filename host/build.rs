@@ -1,0 +1,35 @@
+//! Links the proved library, `libsleetanvil.a`.
+//!
+//! It is looked for in the folder that the environment variable `SLEETANVIL_LIB` names, else in
+//! `../target/staticlib`.
+
+use std::env;
+use std::path::{Path, PathBuf};
+use std::process;
+
+const ARCHIVE: &str = "libsleetanvil.a";
+
+fn main() {
+    println!("cargo:rerun-if-env-changed=SLEETANVIL_LIB");
+    let folder = folder();
+    let archive = folder.join(ARCHIVE);
+    println!("cargo:rerun-if-changed={}", archive.display());
+    if !archive.is_file() {
+        eprintln!("error: {} is not there.", archive.display());
+        eprintln!("Make it with `rt staticlib sleetanvil`,");
+        eprintln!("or set SLEETANVIL_LIB to the folder that holds {ARCHIVE}.");
+        process::exit(1);
+    }
+    println!("cargo:rustc-link-search=native={}", folder.display());
+    println!("cargo:rustc-link-lib=static=sleetanvil");
+    println!("cargo:rustc-env=SLEETANVIL_ARCHIVE={}", archive.display());
+}
+
+/// The folder of the archive, as a whole path.
+fn folder() -> PathBuf {
+    let package = PathBuf::from(env::var_os("CARGO_MANIFEST_DIR").unwrap_or_default());
+    match env::var_os("SLEETANVIL_LIB") {
+        Some(folder) if !folder.is_empty() => package.join(Path::new(&folder)),
+        _ => package.join("../target/staticlib"),
+    }
+}

@@ -1,0 +1,435 @@
+//! The benchmark: the proved library against the paper's model and against the limit, on the
+//! FM25S005BI3.
+//!
+//! The limit is the least that must happen to the same bytes: a copy, an AND, a fill. All three run
+//! in turn, round after round, on the same memory, and each one's best round counts: what else the
+//! machine does can only make a round longer. The last two columns are speeds: above 1 the library
+//! is the faster. Work of n units is given less what the same call costs with one unit, so that
+//! the units are compared and not the call; what a call costs has rows of its own. Run it with
+//! `cargo run --release --bin bench`.
+
+use std::hint::black_box;
+use std::time::{Duration, Instant};
+
+use sleetanvil::lent::{self, Memory};
+use sleetanvil::{paper, Answer, Geometry, Log, Record, State};
+
+const ROUNDS: usize = 301;
+/// How long one contender runs in a round.
+const TURN: Duration = Duration::from_millis(1);
+
+/// The pages that a mixed driver log programs and reads back.
+const MIXED_PAGES: usize = 16;
+/// The block it uses, and the block whose pages the others take in turn.
+const MIXED_BLOCK: usize = 100;
+const BLOCK: usize = 200;
+
+fn main() {
+    println!("The best of {ROUNDS} rounds.\n");
+    println!("| on FM25S005BI3 | library | Rust model | limit | speed, Rust model = 1 | speed, limit = 1 |");
+    println!("|---|---|---|---|---|---|");
+    let geometry = Geometry::fm25s005bi3();
+    compare(&geometry, tasks(&geometry));
+    println!("| on the bench part | | | | | |");
+    compare(&Geometry::bench(), vec![nothing()]);
+}
+
+/// A row for each task on a part.
+fn compare(geometry: &Geometry, tasks: Vec<Task>) {
+    let mut buffers = Buffers::new(geometry);
+    for task in tasks {
+        check(&task, geometry, &mut buffers);
+        let times = measure(&task, &task.log, geometry, &mut buffers);
+        let less = task
+            .less
+            .as_ref()
+            .map(|log| measure(&task, log, geometry, &mut buffers));
+        println!("{}", row(&task, times, less));
+    }
+}
+
+/// The memory that all contenders share.
+struct Buffers {
+    cells: Vec<u8>,
+    cache: Vec<u8>,
+    counts: Vec<u8>,
+    out: Vec<u8>,
+}
+
+impl Buffers {
+    fn new(geometry: &Geometry) -> Self {
+        let pattern = |place: usize| (place as u8).wrapping_mul(31) | 0x81;
+        Buffers {
+            cells: (0..geometry.cells_len()).map(pattern).collect(),
+            cache: (0..geometry.cache_len()).map(pattern).collect(),
+            counts: vec![0; geometry.counts_len()],
+            out: vec![0; 1 << 20],
+        }
+    }
+}
+
+/// Something to do, in three ways.
+struct Task {
+    name: &'static str,
+    /// What the time is given for, and how many of it a run has.
+    per: &'static str,
+    count: usize,
+    /// A run from one of these states, taken in turn, with the log.
+    states: Vec<State>,
+    log: Log,
+    /// A log whose time is taken off.
+    less: Option<Log>,
+    /// The least that must happen, for one of the states, if it is anything.
+    limit: Option<Limit>,
+}
+
+type Limit = Box<dyn Fn(&State, &mut Buffers)>;
+
+fn tasks(geometry: &Geometry) -> Vec<Task> {
+    let page = geometry.cache_len();
+    let block = page * geometry.pages as usize;
+    vec![
+        bus_read(page),
+        bus_load(page),
+        work("page read", 1, page, geometry),
+        work("program", 2, page, geometry),
+        work("erase", 3, block, geometry),
+        mixed(geometry),
+        polls(),
+        nothing(),
+    ]
+}
+
+/// Polls of the status register, one a transfer.
+fn polls() -> Task {
+    let mut driver = Driver { log: Log::new() };
+    for _ in 0..400 {
+        driver.poll();
+    }
+    Task {
+        name: "polls of the status register",
+        per: "event",
+        count: driver.log.records().count(),
+        states: vec![idle()],
+        log: driver.log,
+        less: None,
+        limit: None,
+    }
+}
+
+/// A call with an empty log: what every call costs.
+fn nothing() -> Task {
+    Task {
+        name: "an empty log",
+        per: "call",
+        count: 1,
+        states: vec![idle()],
+        log: Log::new(),
+        less: None,
+        limit: None,
+    }
+}
+
+/// The device after its power-up read, unlocked.
+fn idle() -> State {
+    State {
+        a0: 0x00,
+        c0: 0x00,
+        job: 0,
+        ..State::power_up()
+    }
+}
+
+/// A transfer that reads a page out of the cache register.
+fn bus_read(page: usize) -> Task {
+    let mut bytes = vec![0x03, 0x00, 0x00, 0x00];
+    bytes.resize(4 + page, 0x00);
+    let mut log = Log::new();
+    log.transfer(&bytes);
+    Task {
+        name: "cache read on the bus",
+        per: "event",
+        count: bytes.len() + 2,
+        states: vec![idle()],
+        log,
+        less: None,
+        limit: Some(Box::new(move |_, buffers| {
+            buffers.out[..page].copy_from_slice(&buffers.cache)
+        })),
+    }
+}
+
+/// A transfer that loads a page into the cache register.
+fn bus_load(page: usize) -> Task {
+    let bytes = load(0x84, &vec![0x5A; page]);
+    let mut log = Log::new();
+    log.transfer(&bytes);
+    Task {
+        name: "cache load on the bus",
+        per: "event",
+        count: bytes.len() + 2,
+        states: vec![idle()],
+        log,
+        less: None,
+        limit: Some(Box::new(move |_, buffers| {
+            buffers.cache.copy_from_slice(&bytes[3..])
+        })),
+    }
+}
+
+fn load(code: u8, data: &[u8]) -> Vec<u8> {
+    [&[code, 0x00, 0x00], data].concat()
+}
+
+/// Work of so many units of a job that has just begun.
+fn work(name: &'static str, job: u8, units: usize, geometry: &Geometry) -> Task {
+    let pages = geometry.pages as usize;
+    let rows = BLOCK * pages..(BLOCK + 1) * pages;
+    let states = rows.map(|row| State {
+        c0: 0x01,
+        job,
+        row: row as u16,
+        ..idle()
+    });
+    let mut log = Log::new();
+    push_work(&mut log, units);
+    let page = geometry.cache_len();
+    let limit: Limit = match job {
+        1 => Box::new(move |state, buffers| read(buffers, usize::from(state.row) * page, units)),
+        2 => Box::new(move |state, buffers| program(buffers, usize::from(state.row) * page, units)),
+        _ => Box::new(move |state, buffers| {
+            let first = usize::from(state.row) / pages * pages * page;
+            buffers.cells[first..first + units].fill(0xFF);
+        }),
+    };
+    let mut one = Log::new();
+    push_work(&mut one, 1);
+    Task {
+        name,
+        per: if units == page {
+            "work of 2,176 units"
+        } else {
+            "work of 139,264 units"
+        },
+        count: 1,
+        states: states.collect(),
+        log,
+        less: Some(one),
+        limit: Some(limit),
+    }
+}
+
+fn push_work(log: &mut Log, mut units: usize) {
+    while units > 0 {
+        let now = units.min(usize::from(u16::MAX));
+        log.push(Record::Work(now as u16));
+        units -= now;
+    }
+}
+
+fn read(buffers: &mut Buffers, first: usize, units: usize) {
+    let cells = &buffers.cells[first..first + units];
+    buffers.cache[..units].copy_from_slice(cells);
+}
+
+fn program(buffers: &mut Buffers, first: usize, units: usize) {
+    let cells = &mut buffers.cells[first..first + units];
+    for (cell, byte) in cells.iter_mut().zip(&buffers.cache) {
+        *cell &= byte;
+    }
+}
+
+/// What drivers do: probe, unlock, erase a block, program pages by both load forms, read them back,
+/// and poll all along.
+fn mixed(geometry: &Geometry) -> Task {
+    let (page, pages) = (geometry.cache_len(), geometry.pages as usize);
+    let main = geometry.main as usize;
+    let first = MIXED_BLOCK * pages;
+    let data: Vec<u8> = (0..page).map(|place| place as u8 ^ 0xA5).collect();
+
+    let mut driver = Driver { log: Log::new() };
+    driver.transfer(&[0xFF]);
+    driver.poll();
+    driver.transfer(&[0x9F, 0x00, 0x00, 0x00]);
+    driver.transfer(&[0x1F, 0xA0, 0x00]);
+    driver.transfer(&[0x06]);
+    driver.begin(0xD8, first, page * pages);
+    for place in 0..MIXED_PAGES {
+        driver.transfer(&[0x06]);
+        if place % 2 == 0 {
+            driver.transfer(&load(0x02, &data[..main]));
+        } else {
+            driver.transfer(&load(0x84, &data));
+        }
+        driver.begin(0x10, first + place, page);
+    }
+    let mut read_out = vec![0x03, 0x00, 0x00, 0x00];
+    read_out.resize(4 + page, 0x00);
+    for place in 0..MIXED_PAGES {
+        driver.begin(0x13, first + place, page);
+        driver.transfer(&read_out);
+    }
+
+    let limit = move |_: &State, buffers: &mut Buffers| {
+        let cells = first * page;
+        buffers.cells[cells..cells + page * pages].fill(0xFF);
+        for place in 0..MIXED_PAGES {
+            if place % 2 == 0 {
+                buffers.cache.fill(0xFF);
+                buffers.cache[..main].copy_from_slice(&data[..main]);
+            } else {
+                buffers.cache.copy_from_slice(&data);
+            }
+            program(buffers, cells + place * page, page);
+        }
+        for place in 0..MIXED_PAGES {
+            read(buffers, cells + place * page, page);
+            buffers.out[place * page..(place + 1) * page].copy_from_slice(&buffers.cache);
+        }
+    };
+    Task {
+        name: "mixed driver log",
+        per: "record",
+        count: driver.log.records().count(),
+        states: vec![State::power_up()],
+        log: driver.log,
+        less: None,
+        limit: Some(Box::new(limit)),
+    }
+}
+
+/// A log in the making.
+struct Driver {
+    log: Log,
+}
+
+impl Driver {
+    fn transfer(&mut self, bytes: &[u8]) {
+        self.log.transfer(bytes);
+    }
+
+    fn poll(&mut self) {
+        self.transfer(&[0x0F, 0xC0, 0x00]);
+    }
+
+    /// An operation on a row, polled while it is done in quarters.
+    fn begin(&mut self, code: u8, row: usize, units: usize) {
+        let [high, low] = (row as u16).to_be_bytes();
+        self.transfer(&[code, 0x00, high, low]);
+        for _ in 0..4 {
+            self.poll();
+            push_work(&mut self.log, units.div_ceil(4));
+        }
+        self.poll();
+    }
+}
+
+fn run_library(log: &Log, state: &State, geometry: &Geometry, buffers: &mut Buffers) -> Answer {
+    let mut memory = Memory {
+        cells: &mut buffers.cells,
+        cache: &mut buffers.cache,
+        counts: &mut buffers.counts,
+    };
+    lent::run(
+        geometry,
+        *state,
+        log.as_bytes(),
+        &mut memory,
+        &mut buffers.out,
+    )
+}
+
+fn run_paper(
+    log: &Log,
+    state: &State,
+    geometry: &Geometry,
+    buffers: &mut Buffers,
+) -> paper::Answer {
+    let memory = paper::Memory {
+        cells: &mut buffers.cells,
+        cache: &mut buffers.cache,
+        counts: &mut buffers.counts,
+    };
+    let part = (*geometry).into();
+    let out = &mut buffers.out;
+    paper::run(&part, (*state).into(), log.as_bytes(), memory, out)
+}
+
+/// Library and model do the same, and all of the log.
+fn check(task: &Task, geometry: &Geometry, buffers: &mut Buffers) {
+    for state in &task.states {
+        let library = run_library(&task.log, state, geometry, buffers);
+        let model = run_paper(&task.log, state, geometry, buffers);
+        assert_eq!(library, model.into());
+        assert_eq!(library.used, task.log.as_bytes().len());
+    }
+}
+
+/// The best times of library, model and limit, in seconds a run; 0 for no limit.
+fn measure(task: &Task, log: &Log, geometry: &Geometry, buffers: &mut Buffers) -> [f64; 3] {
+    type Contender<'a> = Box<dyn Fn(&State, &mut Buffers) + 'a>;
+    let contenders: [Contender<'_>; 3] = [
+        Box::new(|state, buffers| {
+            let _ = black_box(run_library(black_box(log), state, geometry, buffers));
+        }),
+        Box::new(|state, buffers| {
+            black_box(run_paper(black_box(log), state, geometry, buffers));
+        }),
+        Box::new(|state, buffers| {
+            if let Some(limit) = &task.limit {
+                limit(black_box(state), buffers);
+            }
+        }),
+    ];
+    let mut turn = |contender: &Contender<'_>, runs: usize| {
+        let start = Instant::now();
+        for state in task.states.iter().cycle().take(runs) {
+            contender(state, buffers);
+            black_box(&mut *buffers);
+        }
+        start.elapsed().as_secs_f64() / runs as f64
+    };
+
+    let runs = contenders.each_ref().map(|contender| {
+        turn(contender, 8);
+        let one = turn(contender, 16).max(1e-9);
+        (TURN.as_secs_f64() / one).ceil() as usize
+    });
+    let mut best = [f64::INFINITY; 3];
+    for round in 0..ROUNDS {
+        for place in 0..3 {
+            let which = (round + place) % 3;
+            best[which] = best[which].min(turn(&contenders[which], runs[which]));
+        }
+    }
+    best
+}
+
+/// The row of the table for a task.
+fn row(task: &Task, times: [f64; 3], less: Option<[f64; 3]>) -> String {
+    let [mut library, mut paper, limit] = times;
+    if let Some([library_less, paper_less, _]) = less {
+        library -= library_less;
+        paper -= paper_less;
+    }
+    let time = |seconds: f64| {
+        let nanoseconds = seconds * 1e9 / task.count as f64;
+        match nanoseconds {
+            0.0..100.0 => format!("{nanoseconds:.2} ns"),
+            100.0..10_000.0 => format!("{nanoseconds:.0} ns"),
+            _ => format!("{:.1} us", nanoseconds / 1e3),
+        }
+    };
+    let (limit, against) = match task.limit {
+        Some(_) => (time(limit), format!("{:.2}", limit / library)),
+        None => (String::new(), String::new()),
+    };
+    format!(
+        "| {}, one {} | {} | {} | {limit} | {:.2} | {against} |",
+        task.name,
+        task.per,
+        time(library),
+        time(paper),
+        paper / library
+    )
+}

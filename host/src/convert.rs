@@ -1,0 +1,71 @@
+//! Between the wrapper's types and those of the paper's model, which share nothing, for whoever
+//! compares the two.
+
+use crate::{paper, Answer, Geometry, Refusal, State};
+
+impl From<Geometry> for paper::Part {
+    fn from(geometry: Geometry) -> Self {
+        paper::Part {
+            data: geometry.main,
+            spare: geometry.spare,
+            pages: geometry.pages,
+            blocks: geometry.blocks,
+            identity: geometry.identity,
+        }
+    }
+}
+
+impl From<State> for paper::State {
+    fn from(state: State) -> Self {
+        paper::State {
+            a0: state.a0,
+            b0: state.b0,
+            c0: state.c0,
+            d0: state.d0,
+            wp: state.wp,
+            selected: state.selected,
+            count: state.count,
+            bytes: [state.first, state.second, state.third],
+            job: state.job,
+            instruction: state.instruction,
+            column: state.column,
+            row: state.row,
+            units: state.units,
+        }
+    }
+}
+
+impl From<paper::State> for State {
+    fn from(state: paper::State) -> Self {
+        let [first, second, third] = state.bytes;
+        State {
+            a0: state.a0,
+            b0: state.b0,
+            c0: state.c0,
+            d0: state.d0,
+            wp: state.wp,
+            selected: state.selected,
+            count: state.count,
+            first,
+            second,
+            third,
+            job: state.job,
+            instruction: state.instruction,
+            column: state.column,
+            row: state.row,
+            units: state.units,
+        }
+    }
+}
+
+impl From<paper::Answer> for Answer {
+    fn from(answer: paper::Answer) -> Self {
+        Answer {
+            state: answer.state.into(),
+            records: answer.records,
+            used: answer.used,
+            written: answer.written,
+            refusal: Refusal::from_number(paper::Refusal::number(answer.refusal)),
+        }
+    }
+}

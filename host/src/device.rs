@@ -1,0 +1,152 @@
+//! A device that owns its state and memory.
+
+use crate::lent::{self, Answer, Memory};
+use crate::{Geometry, Refusal, State};
+
+/// A serial NAND flash with cells, cache register, page counts and state of its own.
+///
+/// It is sound from its making on, so its bus events cannot be refused, and a run can be refused
+/// only for its log or its output room.
+#[derive(Clone, Debug, PartialEq, Eq)]
+pub struct Device {
+    geometry: Geometry,
+    state: State,
+    cells: Vec<u8>,
+    cache: Vec<u8>,
+    counts: Vec<u8>,
+}
+
+impl Device {
+    /// A new device at power-up: cells and cache register FFh, page counts 0.
+    pub fn power_up(geometry: Geometry) -> Result<Self, Refusal> {
+        let cells = vec![0xFF; geometry.cells_len()];
+        let counts = vec![0; geometry.counts_len()];
+        Device::power_up_with(geometry, cells, counts)
+    }
+
+    /// A device at power-up whose cells and page counts outlived the loss of power.
+    pub fn power_up_with(
+        geometry: Geometry,
+        cells: Vec<u8>,
+        counts: Vec<u8>,
+    ) -> Result<Self, Refusal> {
+        let cache = vec![0xFF; geometry.cache_len()];
+        Device::from_parts(geometry, State::power_up(), cells, cache, counts)
+    }
+
+    /// A device in any state. What is not sound is refused, with the numbers 1 to 5.
+    pub fn from_parts(
+        geometry: Geometry,
+        state: State,
+        cells: Vec<u8>,
+        cache: Vec<u8>,
+        counts: Vec<u8>,
+    ) -> Result<Self, Refusal> {
+        let mut device = Device {
+            geometry,
+            state,
+            cells,
+            cache,
+            counts,
+        };
+        device.run(&[], &mut []).result()?;
+        Ok(device)
+    }
+
+    /// The part.
+    pub fn geometry(&self) -> &Geometry {
+        &self.geometry
+    }
+
+    /// The state.
+    pub fn state(&self) -> &State {
+        &self.state
+    }
+
+    /// The status register, C0h.
+    pub fn status(&self) -> u8 {
+        self.state.c0
+    }
+
+    /// The cell array. The cell of row r and column c is at r·P + c.
+    pub fn cells(&self) -> &[u8] {
+        &self.cells
+    }
+
+    /// The cache register.
+    pub fn cache(&self) -> &[u8] {
+        &self.cache
+    }
+
+    /// How often each page was programmed since the last erase of its block.
+    pub fn counts(&self) -> &[u8] {
+        &self.counts
+    }
+
+    /// The cells and the page counts, which outlive a loss of power.
+    pub fn into_cells_and_counts(self) -> (Vec<u8>, Vec<u8>) {
+        (self.cells, self.counts)
+    }
+
+    /// Run a log. The output takes one byte a shift.
+    pub fn run(&mut self, log: &[u8], out: &mut [u8]) -> Answer {
+        self.call(|geometry, state, memory| lent::run(geometry, state, log, memory, out))
+    }
+
+    /// Chip select falls.
+    pub fn select(&mut self) {
+        self.event(lent::select);
+    }
+
+    /// One byte in on DI; the byte out on DO.
+    pub fn shift(&mut self, byte: u8) -> u8 {
+        let mut out = [0xFF];
+        self.event(|geometry, state, memory| lent::shift(geometry, state, byte, memory, &mut out));
+        out[0]
+    }
+
+    /// Chip select rises.
+    pub fn deselect(&mut self) {
+        self.event(lent::deselect);
+    }
+
+    /// A whole transfer: select, the bytes, deselect. Gives the bytes on DO.
+    pub fn transfer(&mut self, bytes: &[u8]) -> Vec<u8> {
+        self.select();
+        let out = bytes.iter().map(|&byte| self.shift(byte)).collect();
+        self.deselect();
+        out
+    }
+
+    /// Array work of some units.
+    pub fn work(&mut self, units: u16) {
+        self.event(|geometry, state, memory| lent::work(geometry, state, units, memory));
+    }
+
+    /// WP# at a level.
+    pub fn level(&mut self, high: bool) {
+        self.event(|geometry, state, memory| lent::level(geometry, state, high.into(), memory));
+    }
+
+    /// Power lost and back.
+    pub fn power(&mut self) {
+        self.event(lent::power);
+    }
+
+    /// An event that a sound device always takes.
+    fn event(&mut self, event: impl FnOnce(&Geometry, State, &mut Memory<'_>) -> Answer) {
+        let refusal = self.call(event).refusal;
+        assert_eq!(refusal, None, "an event of a sound device is never refused");
+    }
+
+    fn call(&mut self, call: impl FnOnce(&Geometry, State, &mut Memory<'_>) -> Answer) -> Answer {
+        let mut memory = Memory {
+            cells: &mut self.cells,
+            cache: &mut self.cache,
+            counts: &mut self.counts,
+        };
+        let answer = call(&self.geometry, self.state, &mut memory);
+        self.state = answer.state;
+        answer
+    }
+}

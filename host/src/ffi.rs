@@ -1,0 +1,339 @@
+//! The C interface of the proved library, and one thin safe function for each of its functions.
+//!
+//! This is the only file with unsafe code. What the header asks of a caller holds by Rust's own
+//! rules: the pointer of a slice is never null, not even of an empty one, a slice has the length
+//! that goes with it, and the mutable slices of one call cannot overlap with any other.
+
+use std::mem::{align_of, size_of};
+
+use crate::lent::Memory;
+use crate::{Geometry, State};
+
+/// `sleet_answer`.
+#[repr(C)]
+#[derive(Clone, Copy, Debug, PartialEq, Eq)]
+pub struct RawAnswer {
+    /// The state after the records done.
+    pub state: State,
+    /// Records done.
+    pub records: usize,
+    /// Log bytes used.
+    pub used: usize,
+    /// Output bytes written.
+    pub written: usize,
+    /// The number of refusal, 0 to 9.
+    pub refusal: u8,
+}
+
+/// `sleet_record`.
+#[repr(C)]
+#[derive(Clone, Copy, Debug, PartialEq, Eq)]
+pub struct RawRecord {
+    /// The kind, 1 to 6.
+    pub kind: u8,
+    /// The byte shifted in, or the level.
+    pub byte: u8,
+    /// The units of work.
+    pub units: u16,
+}
+
+/// `sleet_found`.
+#[repr(C)]
+#[derive(Clone, Copy, Debug, PartialEq, Eq)]
+pub struct RawFound {
+    /// The record; kind 0 where none stands.
+    pub record: RawRecord,
+    /// 0, 6, 7 or 8.
+    pub refusal: u8,
+    /// Where the next record begins.
+    pub place: usize,
+}
+
+/// `sleet_wrote`.
+#[repr(C)]
+#[derive(Clone, Copy, Debug, PartialEq, Eq)]
+pub struct RawWrote {
+    /// 0, 6, 8 or 9.
+    pub refusal: u8,
+    /// The place after the record.
+    pub place: usize,
+}
+
+/// `SLEET_TEXT`: room for every text and its NUL.
+pub const TEXT: usize = 48;
+
+const _: () = {
+    assert!(size_of::<Geometry>() == 20 && align_of::<Geometry>() == 4);
+    assert!(size_of::<RawRecord>() == 4 && align_of::<RawRecord>() == 2);
+};
+
+#[cfg(target_pointer_width = "64")]
+const _: () = {
+    assert!(size_of::<State>() == 32 && align_of::<State>() == 8);
+    assert!(size_of::<RawAnswer>() == 64 && align_of::<RawAnswer>() == 8);
+    assert!(size_of::<RawFound>() == 16 && align_of::<RawFound>() == 8);
+    assert!(size_of::<RawWrote>() == 16 && align_of::<RawWrote>() == 8);
+};
+
+extern "C" {
+    fn sleet_fm25s005bi3() -> Geometry;
+    fn sleet_bench() -> Geometry;
+    fn sleet_geometry_sound(part: Geometry) -> bool;
+    fn sleet_cells_length(part: Geometry) -> usize;
+    fn sleet_cache_length(part: Geometry) -> usize;
+    fn sleet_counts_length(part: Geometry) -> usize;
+    fn sleet_power_up() -> State;
+    fn sleet_state_sound(part: Geometry, state: State) -> bool;
+    fn sleet_run(
+        part: Geometry,
+        state: State,
+        log: *const u8,
+        log_length: usize,
+        cells: *mut u8,
+        cells_length: usize,
+        cache: *mut u8,
+        cache_length: usize,
+        counts: *mut u8,
+        counts_length: usize,
+        out: *mut u8,
+        out_length: usize,
+    ) -> RawAnswer;
+    fn sleet_select(
+        part: Geometry,
+        state: State,
+        cells: *mut u8,
+        cells_length: usize,
+        cache: *mut u8,
+        cache_length: usize,
+        counts: *mut u8,
+        counts_length: usize,
+    ) -> RawAnswer;
+    fn sleet_shift(
+        part: Geometry,
+        state: State,
+        byte: u8,
+        cells: *mut u8,
+        cells_length: usize,
+        cache: *mut u8,
+        cache_length: usize,
+        counts: *mut u8,
+        counts_length: usize,
+        out: *mut u8,
+        out_length: usize,
+    ) -> RawAnswer;
+    fn sleet_deselect(
+        part: Geometry,
+        state: State,
+        cells: *mut u8,
+        cells_length: usize,
+        cache: *mut u8,
+        cache_length: usize,
+        counts: *mut u8,
+        counts_length: usize,
+    ) -> RawAnswer;
+    fn sleet_work(
+        part: Geometry,
+        state: State,
+        units: u16,
+        cells: *mut u8,
+        cells_length: usize,
+        cache: *mut u8,
+        cache_length: usize,
+        counts: *mut u8,
+        counts_length: usize,
+    ) -> RawAnswer;
+    fn sleet_level(
+        part: Geometry,
+        state: State,
+        level: u8,
+        cells: *mut u8,
+        cells_length: usize,
+        cache: *mut u8,
+        cache_length: usize,
+        counts: *mut u8,
+        counts_length: usize,
+    ) -> RawAnswer;
+    fn sleet_power(
+        part: Geometry,
+        state: State,
+        cells: *mut u8,
+        cells_length: usize,
+        cache: *mut u8,
+        cache_length: usize,
+        counts: *mut u8,
+        counts_length: usize,
+    ) -> RawAnswer;
+    fn sleet_next(log: *const u8, log_length: usize, place: usize) -> RawFound;
+    fn sleet_write(record: RawRecord, log: *mut u8, log_length: usize, place: usize) -> RawWrote;
+    fn sleet_text(refusal: u8, out: *mut u8, out_length: usize) -> usize;
+}
+
+/// `sleet_fm25s005bi3`.
+pub fn fm25s005bi3() -> Geometry {
+    // SAFETY: takes nothing, gives a struct of plain numbers.
+    unsafe { sleet_fm25s005bi3() }
+}
+
+/// `sleet_bench`.
+pub fn bench() -> Geometry {
+    // SAFETY: takes nothing, gives a struct of plain numbers.
+    unsafe { sleet_bench() }
+}
+
+/// `sleet_geometry_sound`.
+pub fn geometry_sound(part: Geometry) -> bool {
+    // SAFETY: answers for every content of its argument.
+    unsafe { sleet_geometry_sound(part) }
+}
+
+/// `sleet_cells_length`.
+pub fn cells_length(part: Geometry) -> usize {
+    // SAFETY: answers for every content of its argument.
+    unsafe { sleet_cells_length(part) }
+}
+
+/// `sleet_cache_length`.
+pub fn cache_length(part: Geometry) -> usize {
+    // SAFETY: answers for every content of its argument.
+    unsafe { sleet_cache_length(part) }
+}
+
+/// `sleet_counts_length`.
+pub fn counts_length(part: Geometry) -> usize {
+    // SAFETY: answers for every content of its argument.
+    unsafe { sleet_counts_length(part) }
+}
+
+/// `sleet_power_up`.
+pub fn power_up() -> State {
+    // SAFETY: takes nothing, gives a struct of plain numbers.
+    unsafe { sleet_power_up() }
+}
+
+/// `sleet_state_sound`.
+pub fn state_sound(part: Geometry, state: State) -> bool {
+    // SAFETY: answers for every content of its arguments.
+    unsafe { sleet_state_sound(part, state) }
+}
+
+/// `sleet_run`.
+pub fn run(
+    part: Geometry,
+    state: State,
+    log: &[u8],
+    memory: &mut Memory<'_>,
+    out: &mut [u8],
+) -> RawAnswer {
+    let Memory {
+        cells,
+        cache,
+        counts,
+    } = memory;
+    // SAFETY: each pointer comes with the length of its own slice, and the slices do not overlap.
+    unsafe {
+        sleet_run(
+            part,
+            state,
+            log.as_ptr(),
+            log.len(),
+            cells.as_mut_ptr(),
+            cells.len(),
+            cache.as_mut_ptr(),
+            cache.len(),
+            counts.as_mut_ptr(),
+            counts.len(),
+            out.as_mut_ptr(),
+            out.len(),
+        )
+    }
+}
+
+/// A safe function for an event that takes no output.
+macro_rules! event {
+    ($name:ident, $call:ident $(, $argument:ident: $kind:ty)?) => {
+        #[doc = concat!("`", stringify!($call), "`.")]
+        pub fn $name(
+            part: Geometry,
+            state: State,
+            $($argument: $kind,)?
+            memory: &mut Memory<'_>,
+        ) -> RawAnswer {
+            let Memory {
+                cells,
+                cache,
+                counts,
+            } = memory;
+            // SAFETY: each pointer comes with the length of its own slice, and the slices do not
+            // overlap.
+            unsafe {
+                $call(
+                    part,
+                    state,
+                    $($argument,)?
+                    cells.as_mut_ptr(),
+                    cells.len(),
+                    cache.as_mut_ptr(),
+                    cache.len(),
+                    counts.as_mut_ptr(),
+                    counts.len(),
+                )
+            }
+        }
+    };
+}
+
+event!(select, sleet_select);
+event!(deselect, sleet_deselect);
+event!(work, sleet_work, units: u16);
+event!(level, sleet_level, level: u8);
+event!(power, sleet_power);
+
+/// `sleet_shift`.
+pub fn shift(
+    part: Geometry,
+    state: State,
+    byte: u8,
+    memory: &mut Memory<'_>,
+    out: &mut [u8],
+) -> RawAnswer {
+    let Memory {
+        cells,
+        cache,
+        counts,
+    } = memory;
+    // SAFETY: each pointer comes with the length of its own slice, and the slices do not overlap.
+    unsafe {
+        sleet_shift(
+            part,
+            state,
+            byte,
+            cells.as_mut_ptr(),
+            cells.len(),
+            cache.as_mut_ptr(),
+            cache.len(),
+            counts.as_mut_ptr(),
+            counts.len(),
+            out.as_mut_ptr(),
+            out.len(),
+        )
+    }
+}
+
+/// `sleet_next`.
+pub fn next(log: &[u8], place: usize) -> RawFound {
+    // SAFETY: the pointer comes with the length of its slice; every place is answered for.
+    unsafe { sleet_next(log.as_ptr(), log.len(), place) }
+}
+
+/// `sleet_write`.
+pub fn write(record: RawRecord, log: &mut [u8], place: usize) -> RawWrote {
+    // SAFETY: the pointer comes with the length of its slice; every record and place is answered
+    // for.
+    unsafe { sleet_write(record, log.as_mut_ptr(), log.len(), place) }
+}
+
+/// `sleet_text`.
+pub fn text(refusal: u8, out: &mut [u8]) -> usize {
+    // SAFETY: the pointer comes with the length of its slice; every number is answered for.
+    unsafe { sleet_text(refusal, out.as_mut_ptr(), out.len()) }
+}

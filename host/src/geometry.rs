@@ -1,0 +1,56 @@
+//! Parts: their geometry and identity.
+
+use crate::ffi;
+
+/// A part: the bytes of a page, the pages of a block, the blocks, and the two identity bytes.
+///
+/// Sound: `main` at least 1, `main + spare` at most 4,096, `pages` from 1 to 256, `blocks` at least
+/// 1, `pages * blocks` at most 65,536. Any other is refused with
+/// [`Refusal::BadPart`](crate::Refusal::BadPart).
+#[repr(C)]
+#[derive(Clone, Copy, Debug, PartialEq, Eq, Hash)]
+pub struct Geometry {
+    /// D, data bytes a page.
+    pub main: u32,
+    /// S, spare bytes a page.
+    pub spare: u32,
+    /// K, pages a block.
+    pub pages: u32,
+    /// N, blocks.
+    pub blocks: u32,
+    /// The two bytes that Read ID answers.
+    pub identity: [u8; 2],
+}
+
+impl Geometry {
+    /// The FM25S005BI3: 2,048 + 128 bytes a page, 64 pages a block, 512 blocks.
+    pub fn fm25s005bi3() -> Self {
+        ffi::fm25s005bi3()
+    }
+
+    /// The small bench part: 16 + 4 bytes a page, 4 pages a block, 8 blocks.
+    pub fn bench() -> Self {
+        ffi::bench()
+    }
+
+    /// Whether the geometry is sound.
+    pub fn is_sound(&self) -> bool {
+        ffi::geometry_sound(*self)
+    }
+
+    /// The bytes of the cell array; 0 for a geometry that is not sound.
+    pub fn cells_len(&self) -> usize {
+        ffi::cells_length(*self)
+    }
+
+    /// The bytes of the cache register, which are those of a page; 0 for a geometry that is not
+    /// sound.
+    pub fn cache_len(&self) -> usize {
+        ffi::cache_length(*self)
+    }
+
+    /// The bytes of the page counts, one a page; 0 for a geometry that is not sound.
+    pub fn counts_len(&self) -> usize {
+        ffi::counts_length(*self)
+    }
+}

@@ -1,0 +1,51 @@
+//! Sleetanvil: a proved model of a serial NAND flash, for Rust.
+//!
+//! The model itself is the proved static library behind `sleetanvil.h`; this package is a safe
+//! wrapper over it and adds no behaviour.
+//!
+//! * [`Device`] owns a part's memory and state, and takes bus events or whole logs.
+//! * [`lent`] has the same calls over borrowed memory, [`raw`] the C interface's own types.
+//! * [`Log`], [`Record`] and [`Records`] write and read bus logs.
+//! * [`paper`] is an independent model of the same part, against which the library is tested and
+//!   measured.
+//!
+//! ```
+//! use sleetanvil::{Device, Geometry};
+//!
+//! let mut device = Device::power_up(Geometry::bench())?;
+//! assert_eq!(device.status(), 0x01);
+//! device.work(20);
+//! assert_eq!(device.transfer(&[0x9F, 0, 0, 0]), [0xFF, 0xFF, 0x5A, 0x01]);
+//! # Ok::<(), sleetanvil::Refusal>(())
+//! ```
+
+#![deny(unsafe_code)]
+#![warn(missing_docs)]
+
+mod convert;
+mod device;
+#[allow(unsafe_code)]
+mod ffi;
+mod geometry;
+pub mod lent;
+mod log;
+#[allow(missing_docs)]
+pub mod paper;
+mod refusal;
+mod state;
+
+pub use device::Device;
+pub use geometry::Geometry;
+pub use lent::Answer;
+pub use log::{Log, Record, Records};
+pub use refusal::Refusal;
+pub use state::{Job, Operation, State};
+
+/// The C interface's own structs and functions, one safe function for each.
+pub mod raw {
+    pub use crate::ffi::{
+        bench, cache_length, cells_length, counts_length, deselect, fm25s005bi3, geometry_sound,
+        level, next, power, power_up, run, select, shift, state_sound, text, work, write,
+        RawAnswer, RawFound, RawRecord, RawWrote, TEXT,
+    };
+}

@@ -1,0 +1,81 @@
+//! Numbers of refusal.
+
+use std::error::Error;
+use std::fmt;
+
+use crate::ffi;
+
+/// Why a call stopped or was not begun.
+///
+/// 1 to 5 are found before anything is done. 6 to 9 stop a run before one record; the records
+/// before it stand.
+#[derive(Clone, Copy, Debug, PartialEq, Eq, PartialOrd, Ord, Hash)]
+#[repr(u8)]
+pub enum Refusal {
+    /// The geometry is not sound.
+    BadPart = 1,
+    /// The cells have the wrong length.
+    BadCells = 2,
+    /// The cache register has the wrong length.
+    BadCache = 3,
+    /// The page counts have the wrong length.
+    BadCounts = 4,
+    /// The state is not sound.
+    BadState = 5,
+    /// The next kind is none of 01h to 06h.
+    BadKind = 6,
+    /// The log ends inside a body.
+    ShortBody = 7,
+    /// A WP# level above 1.
+    BadLevel = 8,
+    /// No output room left for a shift, or too little room for a record.
+    NoRoom = 9,
+}
+
+impl Refusal {
+    /// All of them, by number.
+    pub const ALL: [Refusal; 9] = [
+        Refusal::BadPart,
+        Refusal::BadCells,
+        Refusal::BadCache,
+        Refusal::BadCounts,
+        Refusal::BadState,
+        Refusal::BadKind,
+        Refusal::ShortBody,
+        Refusal::BadLevel,
+        Refusal::NoRoom,
+    ];
+
+    /// The number, 1 to 9.
+    pub fn number(self) -> u8 {
+        self as u8
+    }
+
+    /// The refusal of a number; none for 0 and for numbers above 9.
+    pub fn from_number(number: u8) -> Option<Refusal> {
+        Refusal::ALL
+            .into_iter()
+            .find(|refusal| refusal.number() == number)
+    }
+
+    /// What an answer's number says.
+    ///
+    /// # Panics
+    ///
+    /// If the number is above 9, which the library does not answer.
+    pub(crate) fn of_answer(number: u8) -> Option<Refusal> {
+        assert!(number <= 9, "the library answered refusal {number}");
+        Refusal::from_number(number)
+    }
+}
+
+impl fmt::Display for Refusal {
+    /// The library's own words.
+    fn fmt(&self, f: &mut fmt::Formatter<'_>) -> fmt::Result {
+        let mut room = [0; ffi::TEXT];
+        let length = ffi::text(self.number(), &mut room);
+        f.pad(&String::from_utf8_lossy(&room[..length]))
+    }
+}
+
+impl Error for Refusal {}

@@ -1,0 +1,566 @@
+//! The proved library against the paper's own model, on many thousands of random cases.
+//!
+//! The seed is fixed; the environment variable `SLEETANVIL_SEED` names another, and
+//! `SLEETANVIL_CASES` another number of cases. A case on which the two differ is shrunk and printed
+//! with all that is needed to run it again.
+
+mod support;
+
+use sleetanvil::lent::{self, Memory};
+use sleetanvil::raw::{self, RawRecord};
+use sleetanvil::{paper, Answer, Geometry, Refusal, State};
+use support::case::{
+    answer_difference, bytes_difference, difference, hex, library, library_run, model, model_run,
+    untouched_output, Buffers, Case, Outcome,
+};
+use support::generate::Generator;
+use support::hunt::{cases, hunt, report, seed};
+use support::rng::Rng;
+
+#[test]
+fn runs_agree() {
+    report(hunt(library, model, seed(), cases()), seed());
+}
+
+#[test]
+fn single_events_agree() {
+    let seed = seed() ^ 1;
+    for number in 0..cases() / 4 {
+        let mut generator = Generator::new(seed, number);
+        let mut case = generator.case();
+        let event = any_event(&mut generator.rng);
+        case.room = generator.rng.below(3);
+        case.log = event.bytes();
+        let by_event = |case: &Case| {
+            let mut buffers = case.buffers();
+            let answer = event.call(&case.geometry, case.state, &mut buffers);
+            Outcome { answer, buffers }
+        };
+        if let Some(difference) = difference(&by_event(&case), &model(&case)) {
+            panic!("seed {seed}, case {number}, {event:?}: {difference}\n{case}");
+        }
+    }
+}
+
+#[test]
+fn event_by_event_is_the_whole_run() {
+    let seed = seed() ^ 2;
+    for number in 0..cases() / 10 {
+        let case = Generator::new(seed, number).sound_case();
+        if let Some(difference) = difference(&event_by_event(&case), &library(&case)) {
+            panic!("seed {seed}, case {number}: {difference}\n{case}");
+        }
+    }
+}
+
+#[test]
+fn records_are_read_alike() {
+    let seed = seed() ^ 3;
+    for number in 0..cases() / 4 {
+        let mut generator = Generator::new(seed, number);
+        let geometry = generator.sound_geometry();
+        let mut log = generator.log(&geometry);
+        log.truncate(200);
+        let far = [log.len() + 1, usize::MAX - 1, usize::MAX];
+        for place in (0..=log.len()).chain(far) {
+            let found = raw::next(&log, place);
+            let got = (found.record, found.refusal, found.place);
+            let nothing = raw_record(0, 0, 0);
+            let expected = match paper::next(&log, place) {
+                Ok(Some((record, next))) => {
+                    let (kind, byte, units) = record.numbers();
+                    (raw_record(kind, byte, units), 0, next)
+                }
+                Ok(None) => (nothing, 0, place),
+                Err(refusal) => (nothing, refusal as u8, place),
+            };
+            assert_eq!(got, expected, "place {place} of log {}", hex(&log));
+        }
+    }
+}
+
+#[test]
+fn records_are_written_alike() {
+    let seed = seed() ^ 4;
+    for number in 0..cases() {
+        let mut rng = Rng::new(seed, number);
+        let kind = if rng.percent(90) {
+            rng.below(8) as u8
+        } else {
+            rng.byte()
+        };
+        let byte = if rng.percent(50) {
+            rng.below(3) as u8
+        } else {
+            rng.byte()
+        };
+        let record = raw_record(kind, byte, rng.word());
+        let mut written = untouched_output(rng.below(9));
+        let place = match rng.below(10) {
+            0 => usize::MAX - rng.below(4),
+            _ => rng.below(written.len() + 3),
+        };
+        let mut expected = written.clone();
+
+        let wrote = raw::write(record, &mut written, place);
+        let expected_place = paper::Record::of_kind(kind, byte, record.units)
+            .ok_or(paper::Refusal::BadKind)
+            .and_then(|record| paper::write(record, &mut expected, place));
+        let expected_answer = match expected_place {
+            Ok(next) => (0, next),
+            Err(refusal) => (refusal as u8, place),
+        };
+        let what = format!("{record:?} at {place} of {} bytes", written.len());
+        assert_eq!((wrote.refusal, wrote.place), expected_answer, "{what}");
+        assert_eq!(written, expected, "{what}");
+    }
+}
+
+#[test]
+fn geometries_and_states_are_judged_alike() {
+    let seed = seed() ^ 5;
+    for number in 0..cases() {
+        let mut generator = Generator::new(seed, number);
+        let geometry = if generator.rng.percent(50) {
+            generator.sound_geometry()
+        } else {
+            generator.unsound_geometry()
+        };
+        let part = paper::Part::from(geometry);
+        assert_eq!(geometry.is_sound(), part.is_sound(), "{geometry:?}");
+        let lengths = [
+            geometry.cells_len(),
+            geometry.cache_len(),
+            geometry.counts_len(),
+        ];
+        assert_eq!(lengths, part.lengths().unwrap_or([0; 3]), "{geometry:?}");
+        let state = if generator.rng.percent(50) {
+            generator.sound_state(&geometry)
+        } else {
+            generator.unsound_state(&geometry)
+        };
+        assert_eq!(
+            state.is_sound(&geometry),
+            paper::State::from(state).is_sound(&part),
+            "{geometry:?} {state:?}"
+        );
+    }
+}
+
+#[test]
+fn named_parts_and_power_up_agree() {
+    let real = paper::Part::FM25S005BI3;
+    assert_eq!(paper::Part::from(Geometry::fm25s005bi3()), real);
+    assert_eq!(paper::Part::from(Geometry::bench()), paper::Part::BENCH);
+    assert_eq!(
+        paper::State::from(State::power_up()),
+        paper::State::POWER_UP
+    );
+}
+
+/// Logs on the real part, one after the other on the same 71 million cells.
+#[test]
+fn the_real_part_agrees() {
+    const LOGS: u64 = 400;
+    let seed = seed() ^ 6;
+    let geometry = Geometry::fm25s005bi3();
+    let mut left = real_part(&geometry);
+    let mut right = left.clone();
+    let mut state = State::power_up();
+    for number in 0..LOGS {
+        let mut generator = Generator::new(seed, number);
+        if generator.rng.percent(30) {
+            state = generator.sound_state(&geometry);
+        }
+        let log = generator.log(&geometry);
+        left.out = untouched_output(log.len() / 2);
+        right.out = left.out.clone();
+        let answers = [
+            library_run(&geometry, state, &log, &mut left),
+            model_run(&geometry, state, &log, &mut right),
+        ];
+        let difference = answer_difference(&answers[0], &answers[1])
+            .or_else(|| bytes_difference("out", &left.out, &right.out))
+            .or_else(|| bytes_difference("cache", &left.cache, &right.cache))
+            .or_else(|| bytes_difference("counts", &left.counts, &right.counts))
+            .or_else(|| {
+                let whole = number % 4 == 0 || number == LOGS - 1;
+                whole.then(|| bytes_difference("cells", &left.cells, &right.cells))?
+            });
+        if let Some(difference) = difference {
+            panic!(
+                "seed {seed}, log {number}: {difference}\n{state:?}\n{}",
+                hex(&log)
+            );
+        }
+        state = answers[0].state;
+    }
+}
+
+fn real_part(geometry: &Geometry) -> Buffers {
+    let mut rng = Rng::new(7, 7);
+    let mut cells = vec![0xFF; geometry.cells_len()];
+    for cells in cells.chunks_exact_mut(8).step_by(3) {
+        cells.copy_from_slice(&rng.next().to_le_bytes());
+    }
+    Buffers {
+        cells,
+        cache: vec![0xFF; geometry.cache_len()],
+        counts: vec![0; geometry.counts_len()],
+        out: Vec::new(),
+    }
+}
+
+/// One call of a single-event function.
+#[derive(Clone, Copy, Debug)]
+enum Event {
+    Select,
+    Shift(u8),
+    Deselect,
+    Work(u16),
+    Level(u8),
+    Power,
+}
+
+impl Event {
+    fn of(record: paper::Record) -> Self {
+        match record {
+            paper::Record::Select => Event::Select,
+            paper::Record::Shift(byte) => Event::Shift(byte),
+            paper::Record::Deselect => Event::Deselect,
+            paper::Record::Work(units) => Event::Work(units),
+            paper::Record::Level(level) => Event::Level(level),
+            paper::Record::Power => Event::Power,
+        }
+    }
+
+    /// The record's bytes, of which the call is a run.
+    fn bytes(self) -> Vec<u8> {
+        match self {
+            Event::Select => vec![1],
+            Event::Shift(byte) => vec![2, byte],
+            Event::Deselect => vec![3],
+            Event::Work(units) => [&[4], &units.to_le_bytes()[..]].concat(),
+            Event::Level(level) => vec![5, level],
+            Event::Power => vec![6],
+        }
+    }
+
+    fn call(self, geometry: &Geometry, state: State, buffers: &mut Buffers) -> Answer {
+        let memory = &mut Memory {
+            cells: &mut buffers.cells,
+            cache: &mut buffers.cache,
+            counts: &mut buffers.counts,
+        };
+        match self {
+            Event::Select => lent::select(geometry, state, memory),
+            Event::Shift(byte) => lent::shift(geometry, state, byte, memory, &mut buffers.out),
+            Event::Deselect => lent::deselect(geometry, state, memory),
+            Event::Work(units) => lent::work(geometry, state, units, memory),
+            Event::Level(level) => lent::level(geometry, state, level, memory),
+            Event::Power => lent::power(geometry, state, memory),
+        }
+    }
+}
+
+fn any_event(rng: &mut Rng) -> Event {
+    match rng.below(8) {
+        0 => Event::Select,
+        1 | 2 => Event::Shift(rng.byte()),
+        3 => Event::Deselect,
+        4 => Event::Work(rng.below(60) as u16),
+        5 => Event::Work(rng.word()),
+        6 => Event::Level(rng.pick(&[0, 1, 1, 2, 255])),
+        _ => Event::Power,
+    }
+}
+
+/// The library, one call a record.
+fn event_by_event(case: &Case) -> Outcome {
+    let mut buffers = case.buffers();
+    let mut answer = Answer {
+        state: case.state,
+        records: 0,
+        used: 0,
+        written: 0,
+        refusal: None,
+    };
+    let out = std::mem::take(&mut buffers.out);
+    let mut done = out.clone();
+    while answer.refusal.is_none() {
+        let record = match paper::next(&case.log, answer.used) {
+            Ok(Some((record, _))) => record,
+            Ok(None) => break,
+            Err(refusal) => {
+                answer.refusal = Refusal::from_number(refusal as u8);
+                break;
+            }
+        };
+        buffers.out = done.split_off(answer.written);
+        let one = Event::of(record).call(&case.geometry, answer.state, &mut buffers);
+        done.append(&mut buffers.out);
+        answer = Answer {
+            state: one.state,
+            records: answer.records + one.records,
+            used: answer.used + one.used,
+            written: answer.written + one.written,
+            refusal: one.refusal,
+        };
+    }
+    buffers.out = done;
+    Outcome { answer, buffers }
+}
+
+fn raw_record(kind: u8, byte: u8, units: u16) -> RawRecord {
+    RawRecord { kind, byte, units }
+}
+
+/// That these tests can fail: models that are nearly right are found out.
+mod impostors {
+    use super::*;
+    use support::case::Subject;
+
+    const IMPOSTORS: [(&str, Subject); 13] = [
+        ("refuses all logs", refuses_all),
+        ("shifts out FFh always", shifts_out_ff),
+        ("leaves cells untouched", leaves_cells),
+        ("stores the cache over the cell", stores_over),
+        ("does a whole erase in its first unit", hasty),
+        ("is a unit late", late),
+        ("invents records", invents_records),
+        ("fills the cache for 84h", fills_for_84),
+        ("ignores WP#", ignores_wp),
+        ("judges no page count", judges_no_count),
+        ("clears WEL on reset", clears_wel_on_reset),
+        ("writes past the output", writes_past),
+        ("forgets the third byte", forgets_third),
+    ];
+
+    #[test]
+    fn each_is_found() {
+        for (name, impostor) in IMPOSTORS {
+            let found = hunt(impostor, model, 1, 4000);
+            assert!(found.is_some(), "not found: a model that {name}");
+        }
+    }
+
+    #[test]
+    fn the_model_itself_is_not() {
+        assert!(hunt(model, model, 1, 2000).is_none());
+    }
+
+    #[test]
+    fn what_is_found_is_shrunk() {
+        let found = hunt(late, model, 1, 4000).expect("it is found");
+        assert!(found.case.log.len() <= 20, "{}", found.case);
+    }
+
+    fn refuses_all(case: &Case) -> Outcome {
+        let mut empty = case.clone();
+        empty.log.clear();
+        let mut outcome = model(&empty);
+        if !case.log.is_empty() {
+            outcome.answer.refusal.get_or_insert(Refusal::BadKind);
+        }
+        outcome
+    }
+
+    fn shifts_out_ff(case: &Case) -> Outcome {
+        let mut outcome = model(case);
+        let written = outcome.answer.written;
+        outcome.buffers.out[..written].fill(0xFF);
+        outcome
+    }
+
+    fn leaves_cells(case: &Case) -> Outcome {
+        let mut outcome = model(case);
+        outcome.buffers.cells = case.cells.bytes();
+        outcome
+    }
+
+    /// Cells that were programmed on erased ones cannot tell; those that had a 0 already can.
+    fn stores_over(case: &Case) -> Outcome {
+        let mut erased = case.clone();
+        erased.cells.first = 0xFF;
+        erased.cells.step = 0;
+        let (mut outcome, other) = (model(case), model(&erased));
+        let before = case.cells.bytes();
+        let cells = outcome.buffers.cells.iter_mut();
+        for ((cell, other), before) in cells.zip(other.buffers.cells).zip(before) {
+            if other != 0xFF && *cell != before {
+                *cell = other;
+            }
+        }
+        outcome
+    }
+
+    fn hasty(case: &Case) -> Outcome {
+        let mut outcome = model(case);
+        if outcome.answer.state.job == 3 && outcome.answer.state.units > 0 {
+            let pages = case.geometry.pages as usize;
+            let length = pages * case.cache.len;
+            let first = usize::from(outcome.answer.state.row) / pages * length;
+            outcome.buffers.cells[first..first + length].fill(0xFF);
+        }
+        outcome
+    }
+
+    fn late(case: &Case) -> Outcome {
+        on_other_log(case, |record| match record {
+            paper::Record::Work(units) => paper::Record::Work(units.saturating_sub(1)),
+            other => other,
+        })
+    }
+
+    fn invents_records(case: &Case) -> Outcome {
+        let mut outcome = model(case);
+        if outcome.answer.refusal == Some(Refusal::NoRoom) {
+            outcome.answer.records += 1;
+        }
+        outcome
+    }
+
+    fn fills_for_84(case: &Case) -> Outcome {
+        let mut first = false;
+        let mut outcome = on_other_log(case, |record| {
+            let was_first = std::mem::replace(&mut first, record == paper::Record::Select);
+            match record {
+                paper::Record::Shift(0x84) if was_first => paper::Record::Shift(0x02),
+                other => other,
+            }
+        });
+        outcome.answer = model(case).answer;
+        outcome
+    }
+
+    fn ignores_wp(case: &Case) -> Outcome {
+        let mut outcome = on_other_log(case, |record| match record {
+            paper::Record::Level(_) => paper::Record::Level(1),
+            other => other,
+        });
+        outcome.answer.state.wp = model(case).answer.state.wp;
+        outcome
+    }
+
+    fn judges_no_count(case: &Case) -> Outcome {
+        let mut other = case.clone();
+        other.counts.below = 1;
+        let mut outcome = model(&other);
+        outcome.buffers.counts = model(case).buffers.counts;
+        outcome
+    }
+
+    fn clears_wel_on_reset(case: &Case) -> Outcome {
+        let mut outcome = model(case);
+        if case.log.ends_with(&[1, 2, 0xFF, 3]) && outcome.answer.refusal.is_none() {
+            outcome.answer.state.c0 &= !0x02;
+        }
+        outcome
+    }
+
+    fn writes_past(case: &Case) -> Outcome {
+        let mut outcome = model(case);
+        if let Some(byte) = outcome.buffers.out.get_mut(outcome.answer.written) {
+            *byte = 0xFF;
+        }
+        outcome
+    }
+
+    fn forgets_third(case: &Case) -> Outcome {
+        let mut outcome = model(case);
+        outcome.answer.state.third = case.state.third;
+        outcome
+    }
+
+    /// The model on a log whose records were changed, each to one of the same kind.
+    fn on_other_log(
+        case: &Case,
+        mut change: impl FnMut(paper::Record) -> paper::Record,
+    ) -> Outcome {
+        let mut other = case.clone();
+        let mut place = 0;
+        while let Ok(Some((record, next))) = paper::next(&case.log, place) {
+            paper::write(change(record), &mut other.log, place).expect("the same length");
+            place = next;
+        }
+        model(&other)
+    }
+}
+
+/// That the comparison and the generator leave nothing out.
+mod completeness {
+    use super::*;
+
+    #[test]
+    fn each_field_is_compared() {
+        type Change = fn(&mut Outcome);
+        const CHANGES: [(&str, Change); 23] = [
+            ("refusal", |o| o.answer.refusal = Some(Refusal::BadKind)),
+            ("records", |o| o.answer.records += 1),
+            ("used", |o| o.answer.used += 1),
+            ("written", |o| o.answer.written += 1),
+            ("state.a0", |o| o.answer.state.a0 ^= 1),
+            ("state.b0", |o| o.answer.state.b0 ^= 1),
+            ("state.c0", |o| o.answer.state.c0 ^= 1),
+            ("state.d0", |o| o.answer.state.d0 ^= 1),
+            ("state.wp", |o| o.answer.state.wp ^= 1),
+            ("state.selected", |o| o.answer.state.selected ^= 1),
+            ("state.count", |o| o.answer.state.count ^= 1),
+            ("state.first", |o| o.answer.state.first ^= 1),
+            ("state.second", |o| o.answer.state.second ^= 1),
+            ("state.third", |o| o.answer.state.third ^= 1),
+            ("state.job", |o| o.answer.state.job ^= 1),
+            ("state.instruction", |o| o.answer.state.instruction ^= 1),
+            ("state.column", |o| o.answer.state.column ^= 1),
+            ("state.row", |o| o.answer.state.row ^= 1),
+            ("state.units", |o| o.answer.state.units ^= 1),
+            ("out[5]", |o| o.buffers.out[5] ^= 1),
+            ("cache[19]", |o| o.buffers.cache[19] ^= 1),
+            ("counts[31]", |o| o.buffers.counts[31] ^= 1),
+            ("cells[639]", |o| o.buffers.cells[639] ^= 1),
+        ];
+        let mut case = Case::power_up(Geometry::bench(), &[1, 2, 0x0F, 3]);
+        case.room = 6;
+        let right = model(&case);
+        assert_eq!(difference(&right, &right), None);
+        for (name, change) in CHANGES {
+            let mut left = right.clone();
+            change(&mut left);
+            let found = difference(&left, &right).expect(name);
+            assert!(found.starts_with(&format!("{name}:")), "{name}: {found}");
+        }
+    }
+
+    #[test]
+    fn the_generator_reaches_everything() {
+        let mut refusals = [0; 10];
+        let mut jobs = [0; 4];
+        let mut status = [0; 16];
+        let mut instructions = [0; 0x101];
+        let (mut changed_cells, mut counted, mut past_room) = (0, 0, 0);
+        for number in 0..20_000 {
+            let case = Generator::new(seed() ^ 8, number).case();
+            let outcome = model(&case);
+            let Answer { state, refusal, .. } = outcome.answer;
+            refusals[usize::from(refusal.map_or(0, Refusal::number))] += 1;
+            if refusal.is_none_or(|refusal| refusal > Refusal::BadState) {
+                jobs[usize::from(state.job)] += 1;
+                status[usize::from(state.c0)] += 1;
+                instructions[usize::from(state.instruction)] += 1;
+            }
+            changed_cells += u32::from(outcome.buffers.cells != case.cells.bytes());
+            counted += u32::from(outcome.buffers.counts != case.counts.bytes());
+            past_room += u32::from(case.room > outcome.answer.written);
+        }
+        assert!(refusals.iter().all(|&seen| seen > 20), "{refusals:?}");
+        assert!(jobs.iter().all(|&seen| seen > 200), "{jobs:?}");
+        // E_FAIL and P_FAIL are only together where the state was handed in so.
+        assert!(status.iter().all(|&seen| seen > 20), "{status:?}");
+        for code in support::generate::CODES {
+            assert!(instructions[usize::from(code)] > 20, "{code:02X}h");
+        }
+        assert!(instructions[0x100] > 200);
+        let reached = [changed_cells, counted, past_room];
+        assert!(reached.iter().all(|&seen| seen > 1500), "{reached:?}");
+    }
+}

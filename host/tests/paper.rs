@@ -1,0 +1,347 @@
+//! Document 01's own examples, each worked out from the paper: its replay, its thirteen cases, and
+//! the errors that look right.
+//!
+//! Each is put to the independent model and to the proved library.
+
+mod support;
+
+use sleetanvil::{Geometry, Refusal, State};
+use support::case::{library, model, Case, Fill, Outcome, Subject};
+
+const BOTH: [(&str, Subject); 2] = [("paper", model), ("library", library)];
+
+const WORK: u8 = 4;
+
+/// The bench part, idle: nothing protected, WEL set or not.
+fn idle(status: u8) -> State {
+    State {
+        a0: 0,
+        c0: status,
+        job: 0,
+        ..State::power_up()
+    }
+}
+
+/// A case on the bench part.
+fn bench(state: State, log: &[u8]) -> Case {
+    Case {
+        state,
+        ..Case::power_up(Geometry::bench(), log)
+    }
+}
+
+/// Select, the bytes, deselect.
+fn transfer(bytes: &[u8]) -> Vec<u8> {
+    let shifts = bytes.iter().flat_map(|&byte| [2, byte]);
+    [1].into_iter().chain(shifts).chain([3]).collect()
+}
+
+fn work(units: u16) -> Vec<u8> {
+    let [low, high] = units.to_le_bytes();
+    vec![WORK, low, high]
+}
+
+/// Run a case on both models, and look at each outcome.
+fn on_both(case: &Case, look: impl Fn(&Outcome)) {
+    for (name, subject) in BOTH {
+        println!("{name}:");
+        look(&subject(case));
+    }
+}
+
+fn status_after(state: State, log: &[u8], expected: u8) {
+    on_both(&bench(state, log), |outcome| {
+        assert_eq!(outcome.answer.refusal, None);
+        assert_eq!(outcome.answer.state.c0, expected);
+    });
+}
+
+#[test]
+fn the_replay() {
+    const LOG: [u8; 16] = [
+        0x04, 0x13, 0x00, 0x01, 0x02, 0x0F, 0x02, 0xC0, 0x02, 0x00, 0x04, 0x01, 0x00, 0x02, 0x00,
+        0x03,
+    ];
+    const STATUS: [u8; 8] = [1, 1, 1, 1, 1, 0, 0, 0];
+    const ENDS: [usize; 8] = [3, 4, 6, 8, 10, 13, 15, 16];
+    for (&status, &end) in STATUS.iter().zip(&ENDS) {
+        status_after(State::power_up(), &LOG[..end], status);
+    }
+    let case = Case::power_up(Geometry::bench(), &LOG);
+    on_both(&case, |outcome| {
+        let answer = outcome.answer;
+        assert_eq!((answer.refusal, answer.records), (None, 8));
+        assert_eq!((answer.used, answer.written), (16, 4));
+        assert_eq!(outcome.buffers.out[..4], [0xFF, 0xFF, 0x01, 0x00]);
+    });
+}
+
+/// Whether a program on a row is refused as protected.
+fn is_protected(geometry: Geometry, a0: u8, block: u16, subject: Subject) -> bool {
+    let row = block * geometry.pages as u16;
+    let [high, low] = row.to_be_bytes();
+    let case = Case {
+        state: State { a0, ..idle(0x02) },
+        ..Case::power_up(geometry, &transfer(&[0x10, 0, high, low]))
+    };
+    match subject(&case).answer.state.c0 {
+        0x08 => true,
+        0x01 => false,
+        status => panic!("status {status:02X}h"),
+    }
+}
+
+fn protected(geometry: Geometry, a0: u8, expected: &[u16]) {
+    for (name, subject) in BOTH {
+        let blocks: Vec<u16> = (0..geometry.blocks as u16)
+            .filter(|&block| is_protected(geometry, a0, block, subject))
+            .collect();
+        assert_eq!(blocks, expected, "{name}, A0h {a0:02X}h");
+    }
+}
+
+#[test]
+fn case_1_the_top_of_512_blocks() {
+    let geometry = Geometry {
+        main: 1,
+        spare: 0,
+        pages: 1,
+        blocks: 512,
+        identity: [0, 0],
+    };
+    let highest: Vec<u16> = (504..512).collect();
+    protected(geometry, 1 << 3, &highest);
+}
+
+#[test]
+fn case_2_three_and_four_of_eight_blocks() {
+    protected(Geometry::bench(), 3 << 3, &[]);
+    protected(Geometry::bench(), 4 << 3, &[7]);
+    protected(Geometry::bench(), 4 << 3 | 4, &[0]);
+}
+
+#[test]
+fn case_3_none_and_all() {
+    let all: Vec<u16> = (0..8).collect();
+    for inverted in [0, 4] {
+        protected(Geometry::bench(), inverted, &[]);
+        protected(Geometry::bench(), 7 << 3 | inverted, &all);
+    }
+}
+
+#[test]
+fn case_4_a_program_is_an_and() {
+    let log = [transfer(&[0x10, 0, 0, 5]), work(20)].concat();
+    let case = Case {
+        cells: Fill::constant(640, 0xA5),
+        cache: Fill::constant(20, 0x0F),
+        ..bench(idle(0x02), &log)
+    };
+    on_both(&case, |outcome| {
+        let cells = &outcome.buffers.cells;
+        assert_eq!(cells[100..120], [0x05; 20]);
+        assert!(cells[..100]
+            .iter()
+            .chain(&cells[120..])
+            .all(|&cell| cell == 0xA5));
+        assert_eq!(outcome.buffers.counts[5], 1);
+        assert_eq!(outcome.answer.state.c0, 0x00);
+    });
+}
+
+#[test]
+fn case_5_no_program_without_wel() {
+    status_after(idle(0x00), &transfer(&[0x10, 0, 0, 5]), 0x00);
+}
+
+#[test]
+fn case_6_no_program_of_a_protected_block() {
+    let state = State {
+        a0: 0x38,
+        ..idle(0x02)
+    };
+    status_after(state, &transfer(&[0x10, 0, 0, 5]), 0x08);
+}
+
+#[test]
+fn case_7_the_fifth_program() {
+    let program = [transfer(&[0x06]), transfer(&[0x10, 0, 0, 7]), work(20)].concat();
+    for (programs, status) in [(4, 0x00), (5, 0x08), (6, 0x08)] {
+        on_both(&bench(idle(0x00), &program.repeat(programs)), |outcome| {
+            assert_eq!(outcome.answer.state.c0, status);
+            assert_eq!(outcome.buffers.counts[7], 4);
+        });
+    }
+}
+
+#[test]
+fn case_8_rows_31_and_32() {
+    let cells = Fill {
+        len: 640,
+        first: 3,
+        step: 7,
+        below: 256,
+    };
+    let read = |row| Case {
+        cells,
+        cache: Fill::constant(20, 0x00),
+        ..bench(
+            idle(0x00),
+            &[transfer(&[0x13, 0, 0, row]), work(20)].concat(),
+        )
+    };
+    on_both(&read(31), |outcome| {
+        assert_eq!(outcome.buffers.cache, cells.bytes()[620..]);
+    });
+    on_both(&read(32), |outcome| {
+        assert_eq!(outcome.buffers.cache, [0xFF; 20]);
+    });
+}
+
+#[test]
+fn case_9_wel_with_a_byte_too_many() {
+    status_after(idle(0x00), &transfer(&[0x06, 0x00]), 0x00);
+    status_after(idle(0x00), &transfer(&[0x06]), 0x02);
+}
+
+#[test]
+fn case_10_a0_through_its_mask() {
+    let case = bench(idle(0x00), &transfer(&[0x1F, 0xA0, 0xFF]));
+    on_both(&case, |outcome| {
+        assert_eq!(outcome.answer.state.a0, 0xBC);
+    });
+}
+
+#[test]
+fn case_11_power_up_takes_20_units() {
+    status_after(State::power_up(), &work(19), 0x01);
+    status_after(State::power_up(), &work(20), 0x00);
+}
+
+#[test]
+fn case_12_an_erase() {
+    let log = [transfer(&[0xD8, 0, 0, 5]), work(80)].concat();
+    erased(&log, 80..160);
+}
+
+#[test]
+fn case_13_an_erase_cut_by_reset() {
+    let log = [
+        transfer(&[0xD8, 0, 0, 5]),
+        work(30),
+        transfer(&[0xFF]),
+        work(80),
+    ]
+    .concat();
+    erased(&log, 80..110);
+}
+
+fn erased(log: &[u8], expected: std::ops::Range<usize>) {
+    let case = Case {
+        cells: Fill::constant(640, 0x11),
+        counts: Fill::constant(32, 3),
+        ..bench(idle(0x02), log)
+    };
+    on_both(&case, |outcome| {
+        for (place, &cell) in outcome.buffers.cells.iter().enumerate() {
+            let byte = if expected.contains(&place) {
+                0xFF
+            } else {
+                0x11
+            };
+            assert_eq!(cell, byte, "cell {place}");
+        }
+        for (row, &count) in outcome.buffers.counts.iter().enumerate() {
+            let programs = if (4..8).contains(&row) { 0 } else { 3 };
+            assert_eq!(count, programs, "row {row}");
+        }
+        assert_eq!(outcome.answer.state.c0, 0x00);
+        assert_eq!(outcome.answer.state.operation(), None);
+    });
+}
+
+#[test]
+fn oip_drops_with_the_last_unit() {
+    let read = transfer(&[0x13, 0, 0, 1]);
+    for (units, status) in [(0, 0x01), (1, 0x01), (19, 0x01), (20, 0x00)] {
+        let log = [read.clone(), work(units)].concat();
+        status_after(idle(0x00), &log, status);
+    }
+}
+
+#[test]
+fn a_zero_stays_a_zero() {
+    let log = [transfer(&[0x10, 0, 0, 0]), work(20)].concat();
+    let case = Case {
+        cells: Fill::constant(640, 0x00),
+        cache: Fill::constant(20, 0xFF),
+        ..bench(idle(0x02), &log)
+    };
+    on_both(&case, |outcome| {
+        assert_eq!(outcome.buffers.cells, [0x00; 640]);
+    });
+}
+
+#[test]
+fn reset_leaves_wel() {
+    status_after(idle(0x0E), &transfer(&[0xFF]), 0x02);
+}
+
+#[test]
+fn busy_is_judged_at_the_first_byte() {
+    let within = [&[1, 2, 0x06][..], &work(20), &[3]].concat();
+    status_after(State::power_up(), &within, 0x00);
+    let before = [&[1][..], &work(20), &[2, 0x06, 3]].concat();
+    status_after(State::power_up(), &before, 0x02);
+}
+
+#[test]
+fn only_02h_fills_the_cache() {
+    let load = |code| Case {
+        cache: Fill::constant(20, 0x40),
+        ..bench(idle(0x00), &transfer(&[code, 0, 5, 0xA1]))
+    };
+    for (code, rest) in [(0x02, 0xFF), (0x84, 0x40)] {
+        on_both(&load(code), |outcome| {
+            let mut expected = [rest; 20];
+            expected[5] = 0xA1;
+            assert_eq!(outcome.buffers.cache, expected);
+        });
+    }
+}
+
+#[test]
+fn refusals_in_their_order() {
+    let sound = bench(State::power_up(), &[7]);
+    let mut case = sound.clone();
+    case.state.a0 = 0x40;
+    refused(&case, Refusal::BadState);
+    case.counts.len -= 1;
+    refused(&case, Refusal::BadCounts);
+    case.cache.len += 1;
+    refused(&case, Refusal::BadCache);
+    case.cells.len = 0;
+    refused(&case, Refusal::BadCells);
+    case.geometry.main = 0;
+    refused(&case, Refusal::BadPart);
+
+    refused(&sound, Refusal::BadKind);
+    refused(&bench(State::power_up(), &[2]), Refusal::ShortBody);
+    refused(&bench(State::power_up(), &[5, 2]), Refusal::BadLevel);
+    let no_room = Case {
+        room: 0,
+        ..bench(State::power_up(), &[2, 0])
+    };
+    refused(&no_room, Refusal::NoRoom);
+}
+
+/// A case of one record that is refused: nothing is done.
+fn refused(case: &Case, refusal: Refusal) {
+    on_both(case, |outcome| {
+        let answer = outcome.answer;
+        assert_eq!(answer.refusal, Some(refusal));
+        assert_eq!((answer.records, answer.used, answer.written), (0, 0, 0));
+        assert_eq!(answer.state, case.state);
+        assert_eq!(outcome.buffers, case.buffers());
+    });
+}

@@ -1,0 +1,666 @@
+//! Random parts, states, memories and logs, sound and not.
+
+use sleetanvil::{paper, Geometry, State};
+
+use super::case::{Case, Fill};
+use super::rng::Rng;
+
+/// The codes that the state keeps.
+pub const CODES: [u8; 12] = [
+    0x06, 0x04, 0x0F, 0x1F, 0x9F, 0x13, 0x03, 0x02, 0x84, 0x10, 0xD8, 0xFF,
+];
+
+/// A source of cases.
+pub struct Generator {
+    pub rng: Rng,
+}
+
+impl Generator {
+    pub fn new(seed: u64, case: u64) -> Self {
+        Generator {
+            rng: Rng::new(seed, case),
+        }
+    }
+
+    /// Any case.
+    pub fn case(&mut self) -> Case {
+        let geometry = self.geometry();
+        let [cells, cache, counts] = self.memory(&geometry);
+        let state = self.state(&geometry);
+        let log = self.log(&geometry);
+        let room = self.room(&log);
+        Case {
+            geometry,
+            state,
+            cells,
+            cache,
+            counts,
+            room,
+            log,
+        }
+    }
+
+    /// A case that is not refused before its first record.
+    pub fn sound_case(&mut self) -> Case {
+        let geometry = self.sound_geometry();
+        let [cells, cache, counts] = self.sound_memory(&geometry);
+        let state = self.sound_state(&geometry);
+        let log = self.log(&geometry);
+        let room = self.room(&log);
+        Case {
+            geometry,
+            state,
+            cells,
+            cache,
+            counts,
+            room,
+            log,
+        }
+    }
+
+    /// The output room: enough for the log, or not.
+    fn room(&mut self, log: &[u8]) -> usize {
+        let most = log.len() / 2;
+        match self.rng.below(10) {
+            0 => self.rng.within(0, most),
+            1 => self.rng.below(4),
+            2 => most + self.rng.below(4),
+            _ => most,
+        }
+    }
+}
+
+/// Parts.
+impl Generator {
+    pub fn geometry(&mut self) -> Geometry {
+        if self.rng.percent(95) {
+            self.sound_geometry()
+        } else {
+            self.unsound_geometry()
+        }
+    }
+
+    pub fn sound_geometry(&mut self) -> Geometry {
+        let rng = &mut self.rng;
+        let (main, spare, pages, blocks) = match rng.below(20) {
+            0 | 1 => return Geometry::bench(),
+            2 => (1, 0, 1, 1),
+            3 => {
+                let page = rng.within(250, 4096);
+                let main = rng.within(1, page);
+                (main, page - main, rng.within(1, 2), rng.within(1, 2))
+            }
+            4 if rng.percent(3) => rng.pick(&[
+                (1, 0, 256, 256),
+                (1, 0, 1, 65_536),
+                (4000, 96, 17, 1),
+                (300, 1, 256, 1),
+            ]),
+            4 => (4096 - 4095 * rng.below(2), 0, rng.within(1, 3), 1),
+            5 => (rng.within(1, 3), 0, 256, rng.within(1, 2)),
+            6 => (1, rng.below(2), 1, rng.within(200, 600)),
+            7 => (rng.within(100, 300), rng.below(40), 2, rng.within(1, 3)),
+            _ => (
+                rng.within(1, 20),
+                rng.below(6),
+                rng.within(1, 5),
+                rng.within(1, 17),
+            ),
+        };
+        Geometry {
+            main: main as u32,
+            spare: spare as u32,
+            pages: pages as u32,
+            blocks: blocks as u32,
+            identity: [self.rng.byte(), self.rng.byte()],
+        }
+    }
+
+    /// A geometry with one bound broken, or any numbers that are not sound.
+    pub fn unsound_geometry(&mut self) -> Geometry {
+        loop {
+            let mut geometry = self.sound_geometry();
+            let rng = &mut self.rng;
+            let huge = [u32::MAX, 0x8000_0000, 0x0100_0000, 0x0001_0000, 4097, 257];
+            let large = rng.pick(&huge).wrapping_sub(rng.below(3) as u32);
+            match rng.below(10) {
+                0 => geometry.main = 0,
+                1 => geometry.main = large,
+                2 => geometry.spare = large,
+                3 => geometry.spare = 4097 - geometry.main,
+                4 => geometry.pages = 0,
+                5 => geometry.pages = large,
+                6 => geometry.blocks = 0,
+                7 => geometry.blocks = large,
+                8 => geometry.blocks = 65_536 / geometry.pages + 1,
+                _ => {
+                    // Sums and products that would come out small in 32 bits.
+                    geometry.main = u32::MAX - rng.below(3) as u32;
+                    geometry.spare = rng.within(1, 20) as u32;
+                    geometry.pages = 1 << rng.within(0, 8);
+                    geometry.blocks = (1 << rng.within(24, 31)) + rng.below(8) as u32;
+                }
+            }
+            if !paper::Part::from(geometry).is_sound() {
+                return geometry;
+            }
+        }
+    }
+}
+
+/// Memories.
+impl Generator {
+    /// Memory of the right lengths, mostly.
+    pub fn memory(&mut self, geometry: &Geometry) -> [Fill; 3] {
+        let mut memory = self.sound_memory(geometry);
+        if self.rng.percent(5) {
+            let which = self.rng.below(3);
+            let other = self.rng.below(3);
+            match self.rng.below(5) {
+                0 => memory[which].len += 1,
+                1 => memory[which].len = memory[which].len.saturating_sub(1),
+                2 => memory[which].len = 0,
+                3 => memory[which].len = memory[other].len,
+                _ => {
+                    let len = memory[which].len;
+                    memory[which].len = memory[other].len;
+                    memory[other].len = len;
+                }
+            }
+        }
+        memory
+    }
+
+    /// Memory of the right lengths; of some lengths for a geometry that is not sound.
+    pub fn sound_memory(&mut self, geometry: &Geometry) -> [Fill; 3] {
+        let [cells, cache, counts] = paper::Part::from(*geometry)
+            .lengths()
+            .unwrap_or_else(|| [40, 20, 2].map(|most| self.rng.within(0, most)));
+        let counts = Fill {
+            len: counts,
+            first: self.rng.byte(),
+            step: self.rng.byte(),
+            below: self.rng.pick(&[1, 1, 5, 6, 256]),
+        };
+        [self.contents(cells), self.contents(cache), counts]
+    }
+
+    fn contents(&mut self, len: usize) -> Fill {
+        if self.rng.percent(20) {
+            return Fill::constant(len, 0xFF);
+        }
+        Fill {
+            len,
+            first: self.rng.byte(),
+            step: self.rng.byte(),
+            below: 256,
+        }
+    }
+}
+
+/// States.
+impl Generator {
+    pub fn state(&mut self, geometry: &Geometry) -> State {
+        match self.rng.below(20) {
+            0 => self.unsound_state(geometry),
+            1..=6 => paper::State::POWER_UP.into(),
+            _ => self.sound_state(geometry),
+        }
+    }
+
+    /// Any sound state: idle or not, between two bytes of a transfer or not.
+    pub fn sound_state(&mut self, geometry: &Geometry) -> State {
+        let rng = &mut self.rng;
+        let mut state = State {
+            a0: if rng.percent(50) {
+                rng.byte() & 0xBC
+            } else {
+                0
+            },
+            b0: rng.byte() & 0x11,
+            c0: rng.byte() & 0x0E,
+            d0: rng.byte() & 0x60,
+            wp: rng.below(2) as u8,
+            selected: rng.below(2) as u8,
+            count: rng.below(6) as u8,
+            first: rng.byte(),
+            second: rng.byte(),
+            third: rng.byte(),
+            job: 0,
+            instruction: instruction(rng),
+            column: column(rng, geometry),
+            row: 0,
+            units: 0,
+        };
+        if rng.percent(40) {
+            begin_operation(rng, geometry, &mut state);
+            if state.selected == 1 && state.count > 0 {
+                state.instruction = rng.pick(&[0x0F, 0x9F, 0xFF, State::IGNORED]);
+            }
+        }
+        if let 0x13 | 0x10 | 0xD8 = state.instruction {
+            let [_, high, low] = row_bytes(rng, geometry);
+            (state.second, state.third) = (high, low);
+        }
+        state
+    }
+
+    /// A state with one clause of soundness broken, or several.
+    pub fn unsound_state(&mut self, geometry: &Geometry) -> State {
+        let mut state = self.sound_state(geometry);
+        for _ in 0..20 {
+            for _ in 0..self.rng.pick(&[1, 1, 1, 2, 4]) {
+                self.break_clause(geometry, &mut state);
+            }
+            if !paper::State::from(state).is_sound(&(*geometry).into()) {
+                break;
+            }
+            state = self.sound_state(geometry);
+        }
+        state
+    }
+
+    fn break_clause(&mut self, geometry: &Geometry, state: &mut State) {
+        let rng = &mut self.rng;
+        let (page, pages, rows) = sizes(geometry);
+        match rng.below(18) {
+            0 => state.a0 |= rng.pick(&[0x40, 0x02, 0x01]),
+            1 => state.b0 |= rng.byte() & 0xEE,
+            2 => state.c0 |= 0x10 << rng.below(4),
+            3 => state.d0 |= rng.byte() & 0x9F,
+            4 => state.c0 ^= 0x01,
+            5 => state.count = rng.pick(&[6, 7, 255]),
+            6 => state.column = rng.pick(&[4097, 4098, 0x8000, 0xFFFF]),
+            7 => state.wp = rng.pick(&[2, 3, 255]),
+            8 => state.selected = rng.pick(&[2, 128, 255]),
+            9 => state.instruction = rng.pick(&[0, 1, 5, 0x0B, 0x55, 0x101, 0x106, 0x1FF, 0xFF06]),
+            10 => state.job = rng.pick(&[4, 5, 255]),
+            11 => (state.job, state.row) = (0, rng.word()),
+            12 => (state.job, state.units) = (0, rng.pick(&[1, 20, usize::MAX])),
+            13 => (state.job, state.units) = (1, page),
+            14 => (state.job, state.units) = (2, rng.pick(&[page, page + 1, usize::MAX])),
+            15 => (state.job, state.units) = (3, rng.pick(&[page * pages, usize::MAX])),
+            16 => (state.job, state.row) = (rng.pick(&[2, 3]), rows.min(65_535) as u16),
+            _ => {
+                begin_operation(rng, geometry, state);
+                state.selected = 1;
+                state.count = rng.within(1, 5) as u8;
+                state.instruction = rng.pick(&CODES).into();
+            }
+        }
+    }
+}
+
+fn begin_operation(rng: &mut Rng, geometry: &Geometry, state: &mut State) {
+    let (page, pages, rows) = sizes(geometry);
+    state.c0 |= 0x01;
+    state.job = rng.within(1, 3) as u8;
+    let length = if state.job == 3 { page * pages } else { page };
+    state.units = match rng.below(3) {
+        0 => 0,
+        1 => length - 1,
+        _ => rng.below(length),
+    };
+    let inside = rows.min(65_536);
+    state.row = if state.job == 1 && rng.percent(30) {
+        rng.word()
+    } else {
+        rng.pick(&[0, inside - 1, rng.clone().below(inside)]) as u16
+    };
+}
+
+fn instruction(rng: &mut Rng) -> u16 {
+    if rng.percent(10) {
+        State::IGNORED
+    } else {
+        rng.pick(&CODES).into()
+    }
+}
+
+/// The bytes of a page, the pages of a block and the rows, within reason for a geometry that is not
+/// sound.
+fn sizes(geometry: &Geometry) -> (usize, usize, usize) {
+    let clamp = |number: u64| number.clamp(1, 70_000) as usize;
+    let (main, spare) = (u64::from(geometry.main), u64::from(geometry.spare));
+    let (pages, blocks) = (u64::from(geometry.pages), u64::from(geometry.blocks));
+    (clamp(main + spare), clamp(pages), clamp(pages * blocks))
+}
+
+/// A column: within the page, at its end, past it, and at the last that two bytes can name.
+fn column(rng: &mut Rng, geometry: &Geometry) -> u16 {
+    let (page, ..) = sizes(geometry);
+    let page = page.min(4096);
+    match rng.below(8) {
+        0 => 0,
+        1 => (page - 1) as u16,
+        2 => page as u16,
+        3 => (page + 1).min(4096) as u16,
+        4 => rng.within(4090, 4096) as u16,
+        5 => rng.below(4097) as u16,
+        _ => rng.below(page) as u16,
+    }
+}
+
+/// The three bytes of a row: mostly inside the array, and often one of a few, so that pages meet
+/// again.
+fn row_bytes(rng: &mut Rng, geometry: &Geometry) -> [u8; 3] {
+    let (_, _, rows) = sizes(geometry);
+    let row = match rng.below(10) {
+        0..=2 => 0,
+        3 | 4 => rows - 1,
+        5..=7 => rng.below(rows),
+        8 => rows + rng.below(3),
+        _ => usize::from(rng.word()),
+    };
+    let [high, low] = (row as u16).to_be_bytes();
+    [if rng.percent(80) { 0 } else { rng.byte() }, high, low]
+}
+
+/// Logs.
+impl Generator {
+    /// A log: sound, cut short, damaged, or no log at all.
+    pub fn log(&mut self, geometry: &Geometry) -> Vec<u8> {
+        let steps = self.rng.pick(&[1, 2, 4, 8, 12, 20]);
+        let mut log = self.sound_log(geometry, steps);
+        match self.rng.below(20) {
+            0 => log.truncate(self.rng.within(0, log.len())),
+            1 | 2 => self.damage(&mut log),
+            3 => log = self.noise(),
+            4 => log.extend(self.rng.pick::<&[u8]>(&[
+                &[0],
+                &[7],
+                &[5, 2],
+                &[5],
+                &[4, 1],
+                &[2],
+                &[0xFF],
+            ])),
+            _ => {}
+        }
+        log
+    }
+
+    /// A log without 6, 7 or 8 that has at most so many steps of a driver.
+    pub fn sound_log(&mut self, geometry: &Geometry, steps: usize) -> Vec<u8> {
+        let mut script = Script {
+            rng: &mut self.rng,
+            geometry,
+            log: Vec::new(),
+        };
+        if script.rng.percent(40) {
+            script.wake();
+        }
+        for _ in 0..script.rng.within(0, steps) {
+            script.step();
+        }
+        script.log
+    }
+
+    fn damage(&mut self, log: &mut Vec<u8>) {
+        for _ in 0..self.rng.within(1, 4) {
+            if log.is_empty() {
+                return;
+            }
+            let place = self.rng.below(log.len());
+            match self.rng.below(5) {
+                0 => log[place] = self.rng.byte(),
+                1 => log[place] ^= 1 << self.rng.below(8),
+                2 => log.insert(place, self.rng.byte()),
+                3 => drop(log.remove(place)),
+                _ => log[place] = self.rng.below(9) as u8,
+            }
+        }
+    }
+
+    fn noise(&mut self) -> Vec<u8> {
+        let len = self.rng.below(80);
+        (0..len)
+            .map(|_| {
+                if self.rng.percent(70) {
+                    self.rng.within(1, 6) as u8
+                } else {
+                    self.rng.byte()
+                }
+            })
+            .collect()
+    }
+}
+
+/// A log in the making, step by step as a driver would, with its mistakes.
+struct Script<'a> {
+    rng: &'a mut Rng,
+    geometry: &'a Geometry,
+    log: Vec<u8>,
+}
+
+impl Script<'_> {
+    fn step(&mut self) {
+        match self.rng.below(20) {
+            0..=3 => self.any_transfer(),
+            4..=6 => self.program(),
+            7 | 8 => self.erase(),
+            9 => self.read(),
+            10 => self.poll(),
+            11 => self.unlock(),
+            12 => self.load(),
+            13 => self.read_cache(),
+            14 | 15 => self.work(),
+            16 => self.aside(),
+            17 => self.reset(),
+            _ => self.finish(),
+        }
+    }
+
+    /// What a driver does first: the power-up read ends or is cut, and the blocks are unlocked.
+    fn wake(&mut self) {
+        let (page, ..) = sizes(self.geometry);
+        if self.rng.percent(50) {
+            self.units(page);
+        } else {
+            self.transfer(&[0xFF]);
+        }
+        self.transfer(&[0x1F, 0xA0, 0x00]);
+    }
+
+    /// Any first byte with any number of bytes after it.
+    fn any_transfer(&mut self) {
+        let code = match self.rng.below(10) {
+            0 => self.rng.byte(),
+            1 => 0x0B,
+            _ => self.rng.pick(&CODES),
+        };
+        let mut bytes = vec![code];
+        match code {
+            0x0F | 0x1F => bytes.push(self.address()),
+            0x13 | 0x10 | 0xD8 => bytes.extend(row_bytes(self.rng, self.geometry)),
+            0x03 | 0x0B | 0x02 | 0x84 => bytes.extend(self.column()),
+            _ => {}
+        }
+        let more = match (code, self.rng.below(10)) {
+            (0x06 | 0x04 | 0xFF | 0x13 | 0x10 | 0xD8, 0..=6) => 0,
+            (0x1F, 0..=6) => 1,
+            _ => self.rng.below(8),
+        };
+        bytes.extend((0..more).map(|_| self.rng.byte()));
+        if self.rng.percent(8) {
+            bytes.truncate(self.rng.below(bytes.len() + 1));
+        }
+        self.transfer(&bytes);
+    }
+
+    fn program(&mut self) {
+        let enable_first = self.rng.percent(50);
+        if enable_first {
+            self.transfer(&[0x06]);
+        }
+        if self.rng.percent(70) {
+            self.load();
+        }
+        if !enable_first && self.rng.percent(90) {
+            self.transfer(&[0x06]);
+        }
+        self.with_row(0x10);
+        self.finish();
+    }
+
+    fn erase(&mut self) {
+        self.transfer(&[0x06]);
+        self.with_row(0xD8);
+        self.finish();
+    }
+
+    fn read(&mut self) {
+        self.with_row(0x13);
+        self.finish();
+        if self.rng.percent(60) {
+            self.read_cache();
+        }
+    }
+
+    fn poll(&mut self) {
+        self.transfer(&[0x0F, 0xC0, 0x00]);
+    }
+
+    fn unlock(&mut self) {
+        let value = self.rng.pick(&[0x00, 0x00, 0x80, 0x24, 0x08, 0xFF]);
+        self.transfer(&[0x1F, 0xA0, value]);
+    }
+
+    fn load(&mut self) {
+        let (page, ..) = sizes(self.geometry);
+        let count = match self.rng.below(8) {
+            0 => page,
+            1 => page + 1,
+            _ => self.rng.below(12),
+        };
+        let mut bytes = vec![self.rng.pick(&[0x02, 0x84])];
+        bytes.extend(self.column());
+        bytes.extend((0..count).map(|_| self.rng.byte()));
+        self.transfer(&bytes);
+    }
+
+    fn read_cache(&mut self) {
+        let (page, ..) = sizes(self.geometry);
+        let count = match self.rng.below(8) {
+            0 => page + 2,
+            _ => self.rng.below(10),
+        };
+        let mut bytes = vec![self.rng.pick(&[0x03, 0x0B])];
+        bytes.extend(self.column());
+        bytes.extend((0..=count).map(|_| self.rng.byte()));
+        self.transfer(&bytes);
+    }
+
+    fn reset(&mut self) {
+        if self.rng.percent(50) {
+            self.work();
+        }
+        self.transfer(&[0xFF]);
+    }
+
+    /// The operation runs to its end, is cut, or is left as it is.
+    fn finish(&mut self) {
+        let (page, pages, _) = sizes(self.geometry);
+        match self.rng.below(10) {
+            0..=3 => self.units(page * pages),
+            4 | 5 => self.units(page),
+            6 | 7 => self.work(),
+            8 => self.reset(),
+            _ => {}
+        }
+        if self.rng.percent(40) {
+            self.poll();
+        }
+    }
+
+    fn work(&mut self) {
+        let (page, pages, _) = sizes(self.geometry);
+        let units = match self.rng.below(10) {
+            0 => 0,
+            1 => 1,
+            2 => page - 1,
+            3 => page,
+            4 => page + 1,
+            5 => page * pages - 1,
+            6 => page * pages,
+            7 => 65_535,
+            8 => self.rng.below(65_536),
+            _ => self.rng.below(2 * page),
+        };
+        self.units(units);
+    }
+
+    /// An event beside a transfer: a level, a loss of power, a select or deselect or shift out of
+    /// place.
+    fn aside(&mut self) {
+        let bytes: &[u8] = match self.rng.below(8) {
+            0 | 1 => &[5, 0],
+            2 | 3 => &[5, 1],
+            4 => &[6],
+            5 => &[3],
+            6 => &[1],
+            _ => &[2, 0x06],
+        };
+        self.log.extend(bytes);
+    }
+
+    fn with_row(&mut self, code: u8) {
+        let [first, high, low] = row_bytes(self.rng, self.geometry);
+        self.transfer(&[code, first, high, low]);
+    }
+
+    /// Select, the bytes, deselect; now and then with something between the bytes, or without its
+    /// end.
+    fn transfer(&mut self, bytes: &[u8]) {
+        let disturbed = self.rng.percent(12);
+        self.log.push(1);
+        for &byte in bytes {
+            if disturbed && self.rng.percent(30) {
+                if self.rng.percent(50) {
+                    self.work();
+                } else {
+                    self.aside();
+                }
+            }
+            self.log.extend([2, byte]);
+        }
+        if disturbed && self.rng.percent(50) {
+            self.work();
+        }
+        if !self.rng.percent(3) {
+            self.log.push(3);
+        }
+    }
+
+    /// Work of so many units, in as many records as it takes.
+    fn units(&mut self, mut units: usize) {
+        loop {
+            let now = units.min(65_535);
+            let [low, high] = (now as u16).to_le_bytes();
+            self.log.extend([4, low, high]);
+            units -= now;
+            if units == 0 {
+                return;
+            }
+        }
+    }
+
+    fn column(&mut self) -> [u8; 2] {
+        let column = column(self.rng, self.geometry).min(4095);
+        let [high, low] = column.to_be_bytes();
+        let ignored = if self.rng.percent(20) {
+            self.rng.byte() & 0xF0
+        } else {
+            0
+        };
+        [high | ignored, low]
+    }
+
+    fn address(&mut self) -> u8 {
+        if self.rng.percent(85) {
+            self.rng.pick(&[0xA0, 0xB0, 0xC0, 0xD0])
+        } else {
+            self.rng.byte()
+        }
+    }
+}

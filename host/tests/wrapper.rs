@@ -1,0 +1,227 @@
+//! The safe wrapper: devices, logs and refusals as a Rust program uses them.
+
+use std::error::Error;
+
+use sleetanvil::lent::{self, Memory};
+use sleetanvil::{Device, Geometry, Job, Log, Record, Records, Refusal, State};
+
+/// A bench part that has done its power-up read and is unlocked.
+fn ready() -> Device {
+    let mut device = Device::power_up(Geometry::bench()).expect("the bench part is sound");
+    device.work(20);
+    device.transfer(&[0x1F, 0xA0, 0x00]);
+    device
+}
+
+#[test]
+fn a_page_is_programmed_and_read_back() {
+    let mut device = ready();
+    device.transfer(&[0x06]);
+    device.transfer(&[0x02, 0x00, 0x02, 0xDE, 0xAD]);
+    device.transfer(&[0x10, 0x00, 0x00, 0x05]);
+    let operation = device.state().operation().expect("a program");
+    assert_eq!(
+        (operation.job, operation.row, operation.units),
+        (Job::Program, 5, 0)
+    );
+    assert!(device.state().is_busy());
+    device.work(20);
+    assert_eq!(device.status(), 0x00);
+    assert_eq!(device.cells()[102..104], [0xDE, 0xAD]);
+    assert_eq!(device.counts()[5], 1);
+
+    device.transfer(&[0x13, 0x00, 0x00, 0x05]);
+    device.work(20);
+    let out = device.transfer(&[0x03, 0x00, 0x02, 0x00, 0x00, 0x00]);
+    assert_eq!(out[4..], [0xDE, 0xAD]);
+}
+
+#[test]
+fn a_protected_device_fails() {
+    let mut device = Device::power_up(Geometry::bench()).expect("sound");
+    device.work(20);
+    for (code, status) in [(0x10, 0x08), (0xD8, 0x04)] {
+        device.transfer(&[0x06]);
+        assert!(device.state().is_write_enabled());
+        device.transfer(&[code, 0x00, 0x00, 0x00]);
+        assert_eq!(device.transfer(&[0x0F, 0xC0, 0x00])[2], status);
+        assert_eq!(device.state().program_failed(), code == 0x10);
+        assert_eq!(device.state().erase_failed(), code == 0xD8);
+    }
+}
+
+#[test]
+fn wp_holds_a_locked_register() {
+    let mut device = ready();
+    device.transfer(&[0x1F, 0xA0, 0x80]);
+    device.level(false);
+    device.transfer(&[0x1F, 0xA0, 0x00]);
+    assert_eq!(device.state().a0, 0x80);
+    device.level(true);
+    device.transfer(&[0x1F, 0xA0, 0x00]);
+    assert_eq!(device.state().a0, 0x00);
+}
+
+#[test]
+fn power_loss_keeps_cells_and_counts() {
+    let mut device = ready();
+    device.transfer(&[0x06]);
+    device.transfer(&[0x84, 0x00, 0x00, 0x00]);
+    device.transfer(&[0x10, 0x00, 0x00, 0x00]);
+    device.work(1);
+    device.power();
+    assert_eq!(device.state(), &State::power_up());
+    assert_eq!(device.cache(), [0xFF; 20]);
+    let (cells, counts) = device.into_cells_and_counts();
+    assert_eq!((cells[0], counts[0]), (0x00, 1));
+
+    let device = Device::power_up_with(Geometry::bench(), cells, counts).expect("sound");
+    assert_eq!(device.cells()[0], 0x00);
+}
+
+#[test]
+fn a_transfer_while_busy_is_ignored() {
+    let mut device = Device::power_up(Geometry::bench()).expect("sound");
+    device.select();
+    assert!(!device.state().is_ignoring());
+    assert_eq!(device.shift(0x06), 0xFF);
+    assert!(device.state().is_ignoring() && device.state().is_selected());
+    device.work(20);
+    device.deselect();
+    assert!(!device.state().is_write_enabled());
+}
+
+#[test]
+fn a_log_is_written_read_and_run() {
+    let mut log = Log::new();
+    log.push(Record::Work(19));
+    log.transfer(&[0x0F, 0xC0, 0x00]);
+    log.extend([Record::Level(false), Record::Power]);
+    assert_eq!(
+        log.as_bytes(),
+        [4, 0x13, 0, 1, 2, 0x0F, 2, 0xC0, 2, 0, 3, 5, 0, 6]
+    );
+    let records: Result<Vec<_>, _> = log.records().collect();
+    let records = records.expect("a sound log");
+    assert_eq!(records.len(), 8);
+    assert_eq!(records.iter().copied().collect::<Log>(), log);
+
+    let mut device = Device::power_up(Geometry::bench()).expect("sound");
+    let mut out = [0; 4];
+    let answer = device.run(log.as_ref(), &mut out);
+    assert_eq!(answer.result(), Ok(()));
+    assert_eq!((answer.records, answer.used, answer.written), (8, 14, 3));
+    assert_eq!(out, [0xFF, 0xFF, 0x01, 0]);
+    assert_eq!(answer.state, *device.state());
+}
+
+#[test]
+fn a_reader_stops_at_what_it_cannot_read() {
+    for (log, refusal) in [
+        (&[1, 3, 9, 1][..], Refusal::BadKind),
+        (&[1, 3, 4, 1], Refusal::ShortBody),
+        (&[1, 3, 5, 2], Refusal::BadLevel),
+    ] {
+        let mut records = Records::new(log);
+        assert_eq!(records.next(), Some(Ok(Record::Select)));
+        assert_eq!(records.next(), Some(Ok(Record::Deselect)));
+        assert_eq!(records.next(), Some(Err(refusal)));
+        assert_eq!(records.place(), 2);
+        assert_eq!(records.next(), None);
+    }
+}
+
+#[test]
+fn a_writer_needs_room() {
+    let mut bytes = [0xEE; 3];
+    assert_eq!(
+        Record::Work(0x1234).write_at(&mut bytes, 1),
+        Err(Refusal::NoRoom)
+    );
+    assert_eq!(bytes, [0xEE; 3]);
+    assert_eq!(Record::Work(0x1234).write_at(&mut bytes, 0), Ok(3));
+    assert_eq!(bytes, [4, 0x34, 0x12]);
+    assert_eq!(Record::Power.encode(), ([6, 0, 0], 1));
+}
+
+#[test]
+fn unsound_parts_and_memories_are_refused() {
+    let mut geometry = Geometry::bench();
+    geometry.pages = 0;
+    assert!(!geometry.is_sound());
+    assert_eq!(Device::power_up(geometry), Err(Refusal::BadPart));
+
+    let geometry = Geometry::bench();
+    let short = Device::power_up_with(geometry, vec![0; 639], vec![0; 32]);
+    assert_eq!(short, Err(Refusal::BadCells));
+    let short = Device::power_up_with(geometry, vec![0; 640], vec![0; 31]);
+    assert_eq!(short, Err(Refusal::BadCounts));
+    let mut state = State::power_up();
+    state.job = 9;
+    assert!(!state.is_sound(&geometry));
+    let unsound = Device::from_parts(geometry, state, vec![0; 640], vec![0; 20], vec![0; 32]);
+    assert_eq!(unsound, Err(Refusal::BadState));
+    let cache = Device::from_parts(geometry, state, vec![0; 640], vec![0; 21], vec![0; 32]);
+    assert_eq!(cache, Err(Refusal::BadCache));
+}
+
+#[test]
+fn lent_memory_stays_the_callers() {
+    let geometry = Geometry::bench();
+    let (mut cells, mut cache, mut counts) = ([0x3C; 640], [0; 20], [0; 32]);
+    let mut memory = Memory {
+        cells: &mut cells,
+        cache: &mut cache,
+        counts: &mut counts,
+    };
+    let answer = lent::run(
+        &geometry,
+        State::power_up(),
+        &[4, 20, 0],
+        &mut memory,
+        &mut [],
+    );
+    assert_eq!(answer.refusal, None);
+    let answer = lent::level(&geometry, answer.state, 2, &mut memory);
+    assert_eq!(answer.refusal, Some(Refusal::BadLevel));
+    assert_eq!(cache, [0x3C; 20]);
+}
+
+#[test]
+fn refusals_have_numbers_and_words() {
+    let mut seen = Vec::new();
+    for (number, refusal) in (1..).zip(Refusal::ALL) {
+        assert_eq!(refusal.number(), number);
+        assert_eq!(Refusal::from_number(number), Some(refusal));
+        let error: Box<dyn Error> = refusal.into();
+        let words = error.to_string();
+        assert!(!words.is_empty() && words.is_ascii());
+        seen.push(words);
+    }
+    assert_eq!(Refusal::from_number(0), None);
+    assert_eq!(Refusal::from_number(10), None);
+    assert_eq!(seen.len(), 9);
+}
+
+#[test]
+fn words_fit_their_room_or_are_not_written() {
+    for number in 0..=255 {
+        let mut room = [0xEE; sleetanvil::raw::TEXT];
+        let length = sleetanvil::raw::text(number, &mut room);
+        assert!(length > 0 && length < room.len());
+        assert!(room[..length]
+            .iter()
+            .all(|&byte| (0x20..0x7F).contains(&byte)));
+        assert_eq!(room[length], 0);
+        assert!(room[length + 1..].iter().all(|&byte| byte == 0xEE));
+        if number > 9 {
+            assert_eq!(&room[..length], b"no such refusal");
+        }
+        let mut short = vec![0xEE; length];
+        assert_eq!(sleetanvil::raw::text(number, &mut short), 0);
+        assert!(short.iter().all(|&byte| byte == 0xEE));
+        let mut exact = vec![0xEE; length + 1];
+        assert_eq!(sleetanvil::raw::text(number, &mut exact), length);
+        assert_eq!(exact[..], room[..=length]);
+    }
+}
