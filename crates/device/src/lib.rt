@@ -3,7 +3,7 @@
 ghost use mathlib.Core.List.{List};
 ghost use mathlib.Core.Path.{_≡_};
 ghost use Prim.Native.Nat.{ℕ, _<_};
-ghost use lib.ListN.{length, getD, replicate};
+ghost use lib.ListN.{length, getD};
 ghost use lib.Dec.{ltb};
 ghost use Rattle.array.specs.Jobs.{store, lengthOf};
 ghost use Rattle.transfer.specs.Transfer.{selects, withPins};
@@ -101,17 +101,7 @@ fn uncount(g: Geometry, row: Row, counts: &mut [u8])
     let k = part::wide(g.pages);
     let a = g.block(row) * k;
     let e = a + k;
-    zero(&mut counts[a..e]);
-}
-
-fn zero(counts: &mut [u8])
-    ensures { λ r. ⌜ now (counts .exit) ≡ replicate (length (now (counts .entry))) 0 ⌝ }
-{
-    let mut i = 0;
-    while i < counts.len() {
-        counts[i] = 0;
-        i += 1;
-    }
+    part::fill(&mut counts[a..e], 0);
 }
 
 // The cache byte at a column, FFh past the page's end.
@@ -367,7 +357,7 @@ impl State {
     pub fn power(self, g: Geometry, cache: &mut [u8]) -> State
         ensures { λ r. ⌜ ((cells counts : List ℕ) → machine r cells (now (cache .exit)) counts ≡ powered g (stepping g) (machine self cells (now (cache .entry)) counts)) ⌝ }
     {
-        transfer::blank(cache);
+        part::fill(cache, 0xFF);
         let x = self.bus;
         let s = State {
             regs: Registers::at_power_up(),

@@ -1,6 +1,9 @@
--- T7 for this crate: each public function's contract allows one answer.
-use mathlib.Core.Path.{_∙_, sym}
-use Rattle.part.specs.OneAnswer.{OneAnswer}
+-- T7 for this crate: each public function's contract allows one answer, and one content of the lent memory.
+use mathlib.Core.List.{List}
+use mathlib.Core.Path.{_∙_, sym, refl}
+use Prim.Native.Nat.{ℕ}
+use denote.Ref.{now}
+use Rattle.part.specs.OneAnswer.{OneAnswer, OneEnd}
 use Rattle.part.proofs.Geometry.page.Reads as page-reads
 use Rattle.part.proofs.Geometry.page.Kinds as page-kinds
 use Rattle.part.proofs.Geometry.rows.Reads as rows-reads
@@ -13,6 +16,8 @@ use Rattle.part.proofs.place.Reads as place-reads
 use Rattle.part.proofs.place.Kinds as place-kinds
 use Rattle.part.proofs.protected.Reads as protected-reads
 use Rattle.part.proofs.protected.Kinds as protected-kinds
+use Rattle.part.proofs.fill.Reads as fill-reads
+use Rattle.part.proofs.fill.Kinds as fill-kinds
 use Rattle.part.proofs.Fm25s005bi3.geometry.Reads as fm25s005bi3-reads
 use Rattle.part.proofs.Fm25s005bi3.geometry.Kinds as fm25s005bi3-kinds
 use Rattle.part.proofs.Bench.geometry.Reads as bench-reads
@@ -51,3 +56,6 @@ wide-one κs a x y s t p q = p ∙ sym q
 
 pub wide-short-one : OneAnswer 0 wide-short-kinds.ps wide-short-kinds.r wide-short-reads.Post
 wide-short-one κs a x y s t p q = p ∙ sym q
+
+pub fill-one : OneEnd 1 fill-kinds.ps fill-kinds.r (List ℕ) (λ κs s. now (s .0)) fill-reads.Post
+fill-one κs a x y s t p q = (refl, p ∙ sym q)

@@ -1,6 +1,7 @@
 // The part: its geometry and when that is sound, the row and the column address, and which blocks are protected.
 // Document 01, "The article" and "Protection".
 ghost use mathlib.Core.Path.{_≡_};
+ghost use lib.ListN.{length, replicate};
 ghost use Rattle.part.specs.Part.{page, rows, soundPart, place, block, fm25s005bi3, bench};
 ghost use Rattle.part.specs.Protection.{bp, guarded, protects};
 
@@ -100,6 +101,17 @@ pub fn protected(g: Geometry, a0: u8, block: usize) -> bool
         return false;
     }
     n - count <= block
+}
+
+// Lent memory filled with one byte.
+pub fn fill(memory: &mut [u8], byte: u8)
+    ensures { λ r. ⌜ now (memory .exit) ≡ replicate (length (now (memory .entry))) byte ⌝ }
+{
+    let mut i = 0;
+    while i < memory.len() {
+        memory[i] = byte;
+        i += 1;
+    }
 }
 
 // The part of the datasheet.

@@ -24,8 +24,6 @@ use Rattle.transfer.proofs.Bus.shifted_in.Reads as shifted-in-reads
 use Rattle.transfer.proofs.Bus.shifted_in.Kinds as shifted-in-kinds
 use Rattle.transfer.proofs.Bus.body_heard.Reads as body-heard-reads
 use Rattle.transfer.proofs.Bus.body_heard.Kinds as body-heard-kinds
-use Rattle.transfer.proofs.blank.Reads as blank-reads
-use Rattle.transfer.proofs.blank.Kinds as blank-kinds
 use Rattle.transfer.proofs.Bus.caches.Reads as caches-reads
 use Rattle.transfer.proofs.Bus.caches.Kinds as caches-kinds
 
@@ -58,9 +56,6 @@ shifted-in-one κs a x y s t p q = p ∙ sym q
 
 pub body-heard-one : OneAnswer 0 body-heard-kinds.ps body-heard-kinds.r body-heard-reads.Post
 body-heard-one κs a x y s t p q = p ∙ sym q
-
-pub blank-one : OneEnd 1 blank-kinds.ps blank-kinds.r (List ℕ) (λ κs s. now (s .0)) blank-reads.Post
-blank-one κs a x y s t p q = (refl, p ∙ sym q)
 
 pub caches-one : OneEnd 1 caches-kinds.ps caches-kinds.r (List ℕ) (λ κs s. now (s .1 .1 .1 .0)) caches-reads.Post
 caches-one κs a x y s t p q = (refl, p ∙ sym q)

@@ -1,6 +1,5 @@
 // A transfer on the bus: chip select, the bytes shifted in, and what they do to the cache register. Document 01, "Instructions".
 ghost use mathlib.Core.Path.{_≡_};
-ghost use lib.ListN.{length, set, replicate};
 ghost use Rattle.transfer.specs.Transfer.{byteOf, instructionOf, open?, heardAs, is, bytesOf, full, withTransfer, withPins, fresh, selects, ends, more, next, columnOf, rowOf, columnBytes, columnAfter, begun, later, heard, shiftedIn, bodyHeard, stored, cached};
 use part::Column;
 use part::Geometry;
@@ -142,17 +141,6 @@ fn wide(b: u8) -> u16
     ensures { λ r. ⌜ r ≡ b ⌝ }
 {
     b as u16
-}
-
-// The cache register all FFh.
-pub fn blank(cache: &mut [u8])
-    ensures { λ r. ⌜ now (cache .exit) ≡ replicate (length (now (cache .entry))) 0xFF ⌝ }
-{
-    let mut i = 0;
-    while i < cache.len() {
-        cache[i] = 0xFF;
-        i += 1;
-    }
 }
 
 impl Transfer {
@@ -355,7 +343,7 @@ impl Bus {
         let t = self.transfer;
         if t.is(0x02) {
             if t.count == 2 {
-                blank(cache);
+                part::fill(cache, 0xFF);
                 return;
             }
             t.stores(b, cache);

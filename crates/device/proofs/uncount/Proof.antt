@@ -24,17 +24,17 @@ mul-a c = rw (c .block .ensures, c .before .wide .ensures) (let a = c .before .b
 add-e : tie.Need-add-e
 add-e c = rw (c .block .ensures, c .before .wide .ensures) (let a = c .before .before .before .args in let h : a .row .0 < rows (a .g) = omega arith in omega (arith, rows-in (a .g) (a .row) (c .before .before .before .pre .0 .part) h, c .before .before .before .pre .0 .part .few-rows))
 
-sub-zero : tie.Need-sub-zero
-sub-zero c = omega arith
+sub-fill : tie.Need-sub-fill
+sub-fill c = omega arith
 
-part-zero-start : tie.Need-part-zero-start
-part-zero-start c = omega arith
+part-fill-start : tie.Need-part-fill-start
+part-fill-start c = omega arith
 
-part-zero-end : tie.Need-part-zero-end
-part-zero-end c = rw (c .block .ensures, c .before .wide .ensures) (let a = c .before .before .before .args in let h : a .row .0 < rows (a .g) = omega arith in omega (arith, rows-in (a .g) (a .row) (c .before .before .before .pre .0 .part) h, c .before .before .before .pre .0 .long))
+part-fill-end : tie.Need-part-fill-end
+part-fill-end c = rw (c .block .ensures, c .before .wide .ensures) (let a = c .before .before .before .args in let h : a .row .0 < rows (a .g) = omega arith in omega (arith, rows-in (a .g) (a .row) (c .before .before .before .pre .0 .part) h, c .before .before .before .pre .0 .long))
 
-zero-requires : tie.Need-zero-requires
-zero-requires c κs = search needs
+fill-requires : tie.Need-fill-requires
+fill-requires c κs = search needs
 
 same-length : tie.Need-same-length
 same-length c = search needs
@@ -45,7 +45,7 @@ returns c =
     let inside : a .row .0 < rows (a .g) = omega arith in
     let fits : block (a .g) (a .row) * a .g .pages + a .g .pages ≤ length (now (a .counts)) = omega (arith, rows-in (a .g) (a .row) (c .before .before .before .before .before .before .before .pre .0 .part) inside, c .before .before .before .before .before .before .before .pre .0 .long) in
     let h : a .g .pages ≤ length (drop (block (a .g) (a .row) * a .g .pages) (now (a .counts))) = simp length-drop (omega arith) in
-    rw (c .before .before .zero .ensures, add-sub-cancel-left, c .before .before .before .before .block .ensures, c .before .before .before .before .before .wide .ensures, length-take-le (a .g .pages) (drop (block (a .g) (a .row) * a .g .pages) (now (a .counts))) h, drop-drop (a .g .pages) (block (a .g) (a .row) * a .g .pages) (now (a .counts)))
+    rw (c .before .before .fill .ensures, add-sub-cancel-left, c .before .before .before .before .block .ensures, c .before .before .before .before .before .wide .ensures, length-take-le (a .g .pages) (drop (block (a .g) (a .row) * a .g .pages) (now (a .counts))) h, drop-drop (a .g .pages) (block (a .g) (a .row) * a .g .pages) (now (a .counts)))
 
 pub uncount-spec : {M : Type 1} → statement M
 uncount-spec =
@@ -55,9 +55,9 @@ uncount-spec =
     block-requires
     mul-a
     add-e
-    sub-zero
-    part-zero-start
-    part-zero-end
-    zero-requires
+    sub-fill
+    part-fill-start
+    part-fill-end
+    fill-requires
     same-length
     returns)

@@ -5,8 +5,8 @@ use borrow.Author.Needs.{needs}
 use Rattle.device.proofs.State.power.Statement.{statement}
 use Rattle.device.proofs.State.power.Tie as tie
 
-blank-requires : tie.Need-blank-requires
-blank-requires c κs = search needs
+fill-requires : tie.Need-fill-requires
+fill-requires c κs = search needs
 
 at-power-up-requires : tie.Need-at-power-up-requires
 at-power-up-requires c κs = search needs
@@ -22,13 +22,13 @@ same-length c = search needs
 
 returns : tie.Need-returns
 unfolding stepping off powered
-returns c = λ cells counts. rw (c .begins .ensures, c .before .ends .ensures, c .before .before .at-power-up .ensures, c .before .before .before .before .before .before .blank .ensures)
+returns c = λ cells counts. rw (c .begins .ensures, c .before .ends .ensures, c .before .before .at-power-up .ensures, c .before .before .before .before .before .before .fill .ensures)
 
 pub power-spec : {M : Type 1} → statement M
 power-spec =
     tie.close
     (tie.spec
-    blank-requires
+    fill-requires
     at-power-up-requires
     ends-requires
     begins-requires

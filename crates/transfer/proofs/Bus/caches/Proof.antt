@@ -14,15 +14,15 @@ returns c = rw (← (c .before .body-heard .ensures), c .if1 .taken)
 is-requires : tie.Need-is-requires
 is-requires c κs = search needs
 
-blank-requires : tie.Need-blank-requires
-blank-requires c κs = search needs
+fill-requires : tie.Need-fill-requires
+fill-requires c κs = search needs
 
 same-length : tie.Need-same-length
 same-length c = search needs
 
 returns-2 : tie.Need-returns-2
 unfolding cached
-returns-2 c = rw (c .before .before .blank .ensures, ← (c .before .before .before .before .before .before .before .before .before .before .body-heard .ensures), c .before .before .before .before .before .before .before .before .before .if1 .left, ← (c .before .before .before .before .before .before .before .is .ensures), c .before .before .before .before .before .before .if2 .taken, c .before .before .before .before .if3 .taken)
+returns-2 c = rw (c .before .before .fill .ensures, ← (c .before .before .before .before .before .before .before .before .before .before .body-heard .ensures), c .before .before .before .before .before .before .before .before .before .if1 .left, ← (c .before .before .before .before .before .before .before .is .ensures), c .before .before .before .before .before .before .if2 .taken, c .before .before .before .before .if3 .taken)
 
 stores-requires : tie.Need-stores-requires
 stores-requires c κs = search needs
@@ -58,7 +58,7 @@ caches-spec =
     body-heard-requires
     returns
     is-requires
-    blank-requires
+    fill-requires
     same-length
     returns-2
     stores-requires
