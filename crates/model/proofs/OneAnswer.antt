@@ -19,10 +19,10 @@ pub record Lent : Type 0 where
   pub counts : List ℕ
   pub out : List ℕ
 
-abbrev lentOf : End → Lent
+abbrev pub lentOf : End → Lent
 lentOf e = record { cells = e .cells; cache = e .cache; counts = e .counts; out = e .out }
 
-abbrev lent : List ℕ → List ℕ → List ℕ → List ℕ → Lent
+abbrev pub lent : List ℕ → List ℕ → List ℕ → List ℕ → Lent
 lent cells cache counts out = record { cells = cells; cache = cache; counts = counts; out = out }
 
 pub number-of-one : OneAnswer 0 number-of-kinds.ps number-of-kinds.r number-of-reads.Post

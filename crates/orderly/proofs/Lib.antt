@@ -1,0 +1,5 @@
+pub mod Judging
+pub mod Turns
+pub mod Checks
+pub mod OneAnswer
+pub mod AboutJudge
