@@ -5,7 +5,8 @@ use Prim.Native.Nat.{ℕ}
 use denote.Ref.{now}
 use Rattle.part.specs.OneAnswer.{OneAnswer, OneEnd}
 use Rattle.sleetanvil.specs.Records.{CPut}
-use Rattle.sleetanvil.specs.Runs.{CEnd, CQuiet}
+use Rattle.sleetanvil.specs.Runs.{CEnd, CQuiet, CJudgement}
+use Rattle.sleetanvil.specs.declared.CJudged.{CJudged}
 use Rattle.sleetanvil.specs.Text.{Laid}
 use Rattle.sleetanvil.proofs.sleet_fm25s005bi3.Reads as sleet-fm25s005bi3-reads
 use Rattle.sleetanvil.proofs.sleet_fm25s005bi3.Kinds as sleet-fm25s005bi3-kinds
@@ -25,6 +26,8 @@ use Rattle.sleetanvil.proofs.sleet_state_sound.Reads as sleet-state-sou
 use Rattle.sleetanvil.proofs.sleet_state_sound.Kinds as sleet-state-sound-kinds
 use Rattle.sleetanvil.proofs.sleet_run.Reads as sleet-run-reads
 use Rattle.sleetanvil.proofs.sleet_run.Kinds as sleet-run-kinds
+use Rattle.sleetanvil.proofs.sleet_judge.Reads as sleet-judge-reads
+use Rattle.sleetanvil.proofs.sleet_judge.Kinds as sleet-judge-kinds
 use Rattle.sleetanvil.proofs.sleet_shift.Reads as sleet-shift-reads
 use Rattle.sleetanvil.proofs.sleet_shift.Kinds as sleet-shift-kinds
 use Rattle.sleetanvil.proofs.sleet_select.Reads as sleet-select-reads
@@ -87,6 +90,12 @@ sleet-state-sound-one κs a x y s t p q = p ∙ sym q
 
 pub sleet-run-one : OneEnd 5 sleet-run-kinds.ps sleet-run-kinds.r Lent (λ κs s. lent (now (s .1 .1 .1 .0)) (now (s .1 .1 .1 .1 .0)) (now (s .1 .1 .1 .1 .1 .0)) (now (s .1 .1 .1 .1 .1 .1 .0))) sleet-run-reads.Post
 sleet-run-one κs a x y s t p q = (ap (λ (e : CEnd). e .answer) (p ∙ sym q), ap (λ (e : CEnd). lent (e .cells) (e .cache) (e .counts) (e .out)) (p ∙ sym q))
+
+abbrev judgedBy : CJudgement → CJudged
+judgedBy j = record { answer = j .end .answer; orderly = j .orderly }
+
+pub sleet-judge-one : OneEnd 5 sleet-judge-kinds.ps sleet-judge-kinds.r Lent (λ κs s. lent (now (s .1 .1 .1 .0)) (now (s .1 .1 .1 .1 .0)) (now (s .1 .1 .1 .1 .1 .0)) (now (s .1 .1 .1 .1 .1 .1 .0))) sleet-judge-reads.Post
+sleet-judge-one κs a x y s t p q = (ap judgedBy (p ∙ sym q), ap (λ (j : CJudgement). lent (j .end .cells) (j .end .cache) (j .end .counts) (j .end .out)) (p ∙ sym q))
 
 pub sleet-shift-one : OneEnd 4 sleet-shift-kinds.ps sleet-shift-kinds.r Lent (λ κs s. lent (now (s .1 .1 .1 .0)) (now (s .1 .1 .1 .1 .0)) (now (s .1 .1 .1 .1 .1 .0)) (now (s .1 .1 .1 .1 .1 .1 .0))) sleet-shift-reads.Post
 sleet-shift-one κs a x y s t p q = (ap (λ (e : CEnd). e .answer) (p ∙ sym q), ap (λ (e : CEnd). lent (e .cells) (e .cache) (e .counts) (e .out)) (p ∙ sym q))

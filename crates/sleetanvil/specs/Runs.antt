@@ -1,5 +1,5 @@
--- A run, and one event, with the part and the state in plain numbers.
-use mathlib.Core.Bool.{false}
+-- A run, one event, and a run judged, with the part and the state in plain numbers.
+use mathlib.Core.Bool.{Bool, false}
 use mathlib.Core.List.{List, []}
 use Prim.Native.Nat.{ℕ}
 use lib.ListN.{length}
@@ -12,10 +12,13 @@ use Rattle.device.specs.declared.State.{State}
 use Rattle.model.specs.Refusals.{numberOf, checkOf}
 use Rattle.model.specs.Runs.{End, runOf, shown}
 use Rattle.model.specs.declared.Answer.{Answer}
+use Rattle.whole.specs.Demand.{given}
+use Rattle.orderly.specs.Judge.{Judgement, judgementOf}
 use Rattle.sleetanvil.specs.Face.{partOf, stateOf, faceOf}
 use Rattle.sleetanvil.specs.declared.CGeometry.{CGeometry}
 use Rattle.sleetanvil.specs.declared.CState.{CState}
 use Rattle.sleetanvil.specs.declared.CAnswer.{CAnswer}
+use Rattle.sleetanvil.specs.declared.CJudged.{CJudged}
 use Rattle.sleetanvil.specs.declared.Given.{Given}
 use Rattle.sleetanvil.specs.declared.Given.the-variants.{Good, Bad}
 
@@ -88,3 +91,27 @@ unheard e = quiet (e .answer) (e .cells) (e .cache) (e .counts)
 -- a run of the log with no output lent
 abbrev pub quietOf : CGeometry → CState → List ℕ → List ℕ → List ℕ → List ℕ → CQuiet
 quietOf g c log cells cache counts = unheard (ranOf g c log cells cache counts [])
+
+-- ---- a run judged
+
+-- what a run leaves, and whether the suppositions of demand 3 were met
+pub record CJudgement : Type 0 where
+  pub end : CEnd
+  pub orderly : Bool
+
+-- the two together
+abbrev pub judged : CJudged → List ℕ → List ℕ → List ℕ → List ℕ → CJudgement
+judged r cells cache counts out = record { end = ended (r .answer) cells cache counts out; orderly = r .orderly }
+
+-- the judgement of the model's run in numbers
+abbrev pub judgedAs : Judgement → CJudgement
+judgedAs j = record { end = shownAs (j .end); orderly = j .orderly }
+
+-- a state's run is judged; where there is no state, nothing is done, and that is not orderly
+abbrev pub judgedGiven : CGeometry → CState → Given → List ℕ → List ℕ → List ℕ → List ℕ → List ℕ → CJudgement
+judgedGiven g c (Good s) log cells cache counts out = judgedAs (judgementOf (given (partOf g) s log cells cache counts out))
+judgedGiven g c Bad log cells cache counts out = record { end = ranGiven g c Bad log cells cache counts out; orderly = false }
+
+-- a run of a log, judged
+unfoldable pub judgedOf : CGeometry → CState → List ℕ → List ℕ → List ℕ → List ℕ → List ℕ → CJudgement
+judgedOf g c log cells cache counts out = judgedGiven g c (stateOf c) log cells cache counts out
