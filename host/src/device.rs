@@ -93,6 +93,17 @@ impl Device {
         self.call(|geometry, state, memory| lent::run(geometry, state, log, memory, out))
     }
 
+    /// Run a log, and say whether it was orderly (see [`lent::judge`]).
+    pub fn judge(&mut self, log: &[u8], out: &mut [u8]) -> (Answer, bool) {
+        let mut orderly = false;
+        let answer = self.call(|geometry, state, memory| {
+            let (answer, judged) = lent::judge(geometry, state, log, memory, out);
+            orderly = judged;
+            answer
+        });
+        (answer, orderly)
+    }
+
     /// Chip select falls.
     pub fn select(&mut self) {
         self.event(lent::select);

@@ -25,6 +25,16 @@ pub struct RawAnswer {
     pub refusal: u8,
 }
 
+/// `sleet_judged`.
+#[repr(C)]
+#[derive(Clone, Copy, Debug, PartialEq, Eq)]
+pub struct RawJudged {
+    /// What the run answers.
+    pub answer: RawAnswer,
+    /// Whether the log was orderly.
+    pub orderly: bool,
+}
+
 /// `sleet_record`.
 #[repr(C)]
 #[derive(Clone, Copy, Debug, PartialEq, Eq)]
@@ -71,6 +81,7 @@ const _: () = {
 const _: () = {
     assert!(size_of::<State>() == 32 && align_of::<State>() == 8);
     assert!(size_of::<RawAnswer>() == 64 && align_of::<RawAnswer>() == 8);
+    assert!(size_of::<RawJudged>() == 72 && align_of::<RawJudged>() == 8);
     assert!(size_of::<RawFound>() == 16 && align_of::<RawFound>() == 8);
     assert!(size_of::<RawWrote>() == 16 && align_of::<RawWrote>() == 8);
 };
@@ -98,6 +109,20 @@ extern "C" {
         out: *mut u8,
         out_length: usize,
     ) -> RawAnswer;
+    fn sleet_judge(
+        part: Geometry,
+        state: State,
+        log: *const u8,
+        log_length: usize,
+        cells: *mut u8,
+        cells_length: usize,
+        cache: *mut u8,
+        cache_length: usize,
+        counts: *mut u8,
+        counts_length: usize,
+        out: *mut u8,
+        out_length: usize,
+    ) -> RawJudged;
     fn sleet_select(
         part: Geometry,
         state: State,
@@ -216,37 +241,45 @@ pub fn state_sound(part: Geometry, state: State) -> bool {
     unsafe { sleet_state_sound(part, state) }
 }
 
-/// `sleet_run`.
-pub fn run(
-    part: Geometry,
-    state: State,
-    log: &[u8],
-    memory: &mut Memory<'_>,
-    out: &mut [u8],
-) -> RawAnswer {
-    let Memory {
-        cells,
-        cache,
-        counts,
-    } = memory;
-    // SAFETY: each pointer comes with the length of its own slice, and the slices do not overlap.
-    unsafe {
-        sleet_run(
-            part,
-            state,
-            log.as_ptr(),
-            log.len(),
-            cells.as_mut_ptr(),
-            cells.len(),
-            cache.as_mut_ptr(),
-            cache.len(),
-            counts.as_mut_ptr(),
-            counts.len(),
-            out.as_mut_ptr(),
-            out.len(),
-        )
-    }
+/// A safe function for a call on a log.
+macro_rules! on_log {
+    ($name:ident, $call:ident, $answer:ty) => {
+        #[doc = concat!("`", stringify!($call), "`.")]
+        pub fn $name(
+            part: Geometry,
+            state: State,
+            log: &[u8],
+            memory: &mut Memory<'_>,
+            out: &mut [u8],
+        ) -> $answer {
+            let Memory {
+                cells,
+                cache,
+                counts,
+            } = memory;
+            // SAFETY: each pointer comes with the length of its own slice, and the slices do not overlap.
+            unsafe {
+                $call(
+                    part,
+                    state,
+                    log.as_ptr(),
+                    log.len(),
+                    cells.as_mut_ptr(),
+                    cells.len(),
+                    cache.as_mut_ptr(),
+                    cache.len(),
+                    counts.as_mut_ptr(),
+                    counts.len(),
+                    out.as_mut_ptr(),
+                    out.len(),
+                )
+            }
+        }
+    };
 }
+
+on_log!(run, sleet_run, RawAnswer);
+on_log!(judge, sleet_judge, RawJudged);
 
 /// A safe function for an event that takes no output.
 macro_rules! event {

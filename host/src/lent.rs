@@ -66,6 +66,23 @@ pub fn run(
     ffi::run(*geometry, state, log, memory, out).into()
 }
 
+/// Run a log as [`run`] does, and say whether it was orderly.
+///
+/// It was if it began at power-up or with the array idle, if each instruction other than Get
+/// Feature, Read ID and Reset had its first byte while the array was idle, if no reset and no power
+/// loss took effect while it was busy, and if it ended idle. The end of an orderly log is proved not
+/// to depend on how the array's work falls among the bus events.
+pub fn judge(
+    geometry: &Geometry,
+    state: State,
+    log: &[u8],
+    memory: &mut Memory<'_>,
+    out: &mut [u8],
+) -> (Answer, bool) {
+    let judged = ffi::judge(*geometry, state, log, memory, out);
+    (judged.answer.into(), judged.orderly)
+}
+
 /// Chip select falls.
 pub fn select(geometry: &Geometry, state: State, memory: &mut Memory<'_>) -> Answer {
     ffi::select(*geometry, state, memory).into()

@@ -45,7 +45,7 @@ pub use state::{Job, Operation, State};
 pub mod raw {
     pub use crate::ffi::{
         bench, cache_length, cells_length, counts_length, deselect, fm25s005bi3, geometry_sound,
-        level, next, power, power_up, run, select, shift, state_sound, text, work, write,
-        RawAnswer, RawFound, RawRecord, RawWrote, TEXT,
+        judge, level, next, power, power_up, run, select, shift, state_sound, text, work, write,
+        RawAnswer, RawFound, RawJudged, RawRecord, RawWrote, TEXT,
     };
 }

@@ -163,6 +163,17 @@ fn a_long_log() {
 }
 
 #[test]
+fn a_judgement() {
+    let orderly = with_input(&["replay", "--judge", "-"], &REPLAY);
+    assert_eq!(succeeds(&orderly), "orderly\nend 0 8\n");
+    let mut early = Log::new();
+    early.transfer(&[0x06]);
+    early.push(Record::Work(20));
+    let not = with_input(&["replay", "--judge", "-"], early.as_bytes());
+    assert_eq!(succeeds(&not), "not orderly\nend 0 4\n");
+}
+
+#[test]
 fn a_trace() {
     let traced = with_input(&["replay", "--trace", "-"], &REPLAY);
     let expected = "          \

@@ -54,6 +54,60 @@ fn event_by_event_is_the_whole_run() {
 }
 
 #[test]
+fn logs_are_judged_alike() {
+    let seed = seed() ^ 9;
+    let mut orderly = 0;
+    for number in 0..cases() / 4 {
+        let mut generator = Generator::new(seed, number);
+        let case = if number % 2 == 0 {
+            generator.sound_case()
+        } else {
+            generator.case()
+        };
+        let (library, library_orderly) = judged_by_library(&case);
+        let (model, model_orderly) = judged_by_model(&case);
+        if let Some(difference) = difference(&library, &model) {
+            panic!("seed {seed}, case {number}: {difference}\n{case}");
+        }
+        assert_eq!(
+            library_orderly, model_orderly,
+            "seed {seed}, case {number}: orderly or not\n{case}"
+        );
+        orderly += u64::from(library_orderly);
+    }
+    let all = cases() / 4;
+    assert!(
+        orderly * 100 > all && orderly * 100 < all * 99,
+        "{orderly} of {all} cases are orderly"
+    );
+}
+
+fn judged_by_library(case: &Case) -> (Outcome, bool) {
+    let mut buffers = case.buffers();
+    let mut memory = Memory {
+        cells: &mut buffers.cells,
+        cache: &mut buffers.cache,
+        counts: &mut buffers.counts,
+    };
+    let (geometry, out) = (&case.geometry, &mut buffers.out);
+    let (answer, orderly) = lent::judge(geometry, case.state, &case.log, &mut memory, out);
+    (Outcome { answer, buffers }, orderly)
+}
+
+fn judged_by_model(case: &Case) -> (Outcome, bool) {
+    let mut buffers = case.buffers();
+    let memory = paper::Memory {
+        cells: &mut buffers.cells,
+        cache: &mut buffers.cache,
+        counts: &mut buffers.counts,
+    };
+    let (part, out) = (case.geometry.into(), &mut buffers.out);
+    let (answer, orderly) = paper::judge(&part, case.state.into(), &case.log, memory, out);
+    let answer = answer.into();
+    (Outcome { answer, buffers }, orderly)
+}
+
+#[test]
 fn records_are_read_alike() {
     let seed = seed() ^ 3;
     for number in 0..cases() / 4 {

@@ -11,6 +11,7 @@
 static_assert(sizeof(sleet_geometry) == 20, "sleet_geometry");
 static_assert(sizeof(sleet_state) == 32, "sleet_state");
 static_assert(sizeof(sleet_answer) == 64, "sleet_answer");
+static_assert(sizeof(sleet_judged) == 72, "sleet_judged");
 static_assert(sizeof(sleet_record) == 4, "sleet_record");
 static_assert(sizeof(sleet_found) == 16, "sleet_found");
 static_assert(sizeof(sleet_wrote) == 16, "sleet_wrote");
@@ -104,6 +105,23 @@ static void check_log(void)
     }
     CHECK(answer.written == 4 && memcmp(out, shifted, sizeof shifted) == 0 && out[4] == 0xEE);
     CHECK(answer.state.job == SLEET_IDLE && answer.state.selected == 0);
+}
+
+/* A log run and judged: a write enable sent while the power-up read is under way is not orderly, and one behind it is. */
+static void check_judgement(void)
+{
+    const uint8_t early[] = {0x01, 0x02, 0x06, 0x03, 0x04, 0x14, 0x00};
+    const uint8_t behind[] = {0x04, 0x14, 0x00, 0x01, 0x02, 0x06, 0x03};
+    sleet_judged judged;
+
+    erase_all();
+    judged = sleet_judge(sleet_bench(), sleet_power_up(), early, sizeof early, cells, sizeof cells, cache, sizeof cache, counts, sizeof counts, out,
+                         sizeof out);
+    CHECK(!judged.orderly && judged.answer.refusal == SLEET_DONE && judged.answer.records == 4 && judged.answer.state.c0 == 0x00);
+    erase_all();
+    judged = sleet_judge(sleet_bench(), sleet_power_up(), behind, sizeof behind, cells, sizeof cells, cache, sizeof cache, counts, sizeof counts, out,
+                         sizeof out);
+    CHECK(judged.orderly && judged.answer.refusal == SLEET_DONE && judged.answer.records == 4 && judged.answer.state.c0 == 0x02);
 }
 
 static void check_refusals(void)
@@ -260,6 +278,7 @@ int main(void)
     check_parts();
     check_power_up();
     check_log();
+    check_judgement();
     check_refusals();
     check_events();
     check_records();

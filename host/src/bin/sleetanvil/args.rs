@@ -23,6 +23,10 @@ options of replay:
                   read to its end; may be the file of --image
   --trace         print a line for each transfer and each other record
   --bytes N       data bytes that a line of the trace shows; 16 if not given
+  --judge         print `orderly` or `not orderly` before the last line: whether
+                  the log begins and ends idle, or begins at power-up, and no
+                  command but Get Feature, Read ID and Reset is begun, no reset
+                  and no power loss takes effect while the array is busy
 
 The replay begins at power-up. The last line printed is `end`, the number of
 refusal and the records done; `end 0 8` is a log of 8 records read to its end.
@@ -62,6 +66,7 @@ pub struct Replay {
     pub save: Option<PathBuf>,
     pub trace: bool,
     pub bytes: usize,
+    pub judge: bool,
     pub log: Source,
 }
 
@@ -120,7 +125,7 @@ pub fn parse(mut args: impl Iterator<Item = OsString>) -> Result<Command, String
 
 fn parse_replay(mut args: impl Iterator<Item = OsString>) -> Result<Command, String> {
     let (mut part, mut image, mut save, mut bytes, mut log) = (None, None, None, None, None);
-    let mut trace = false;
+    let (mut trace, mut judge) = (false, false);
     let mut options_end = false;
     while let Some(arg) = args.next() {
         let option = arg.to_str().filter(|_| !options_end).unwrap_or_default();
@@ -129,6 +134,7 @@ fn parse_replay(mut args: impl Iterator<Item = OsString>) -> Result<Command, Str
             "--" => options_end = true,
             "--help" | "-h" => return Ok(Command::Help),
             "--trace" => trace = true,
+            "--judge" => judge = true,
             "--part" => set(&mut part, option, part_of(&value()?)?)?,
             "--image" => set(&mut image, option, value()?.into())?,
             "--save" => set(&mut save, option, value()?.into())?,
@@ -147,6 +153,7 @@ fn parse_replay(mut args: impl Iterator<Item = OsString>) -> Result<Command, Str
         save,
         trace,
         bytes: bytes.unwrap_or(16),
+        judge,
         log: log.ok_or("no log given")?,
     }))
 }

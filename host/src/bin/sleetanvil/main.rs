@@ -61,6 +61,7 @@ struct End {
 fn run(replay: &Replay) -> Result<(), String> {
     let mut device = power_up(replay)?;
     let log = read_log(&replay.log)?;
+    let verdict = replay.judge.then(|| judge_log(device.clone(), &log));
     let end = if replay.trace {
         let out = io::BufWriter::new(io::stdout().lock());
         trace_log(&mut device, &log, replay.bytes, out).map_err(output_error)?
@@ -68,7 +69,8 @@ fn run(replay: &Replay) -> Result<(), String> {
         run_log(&mut device, &log)
     };
     let summary = format!(
-        "end {} {}\n",
+        "{}end {} {}\n",
+        verdict.unwrap_or_default(),
         end.refusal.map_or(0, Refusal::number),
         end.records
     );
@@ -112,6 +114,15 @@ fn run_log(device: &mut Device, log: &[u8]) -> End {
         refusal: answer.refusal,
         records: answer.records,
         used: answer.used,
+    }
+}
+
+/// Whether a log is orderly, in a line.
+fn judge_log(mut device: Device, log: &[u8]) -> &'static str {
+    let mut out = vec![0; log.len() / 2];
+    match device.judge(log, &mut out) {
+        (_, true) => "orderly\n",
+        (_, false) => "not orderly\n",
     }
 }
 
