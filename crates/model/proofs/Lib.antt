@@ -1,6 +1,7 @@
 pub mod Rooms
 pub mod Turns
 pub mod Loop
+pub mod Streams
 pub mod Checked
 pub mod Single
 pub mod OneAnswer

@@ -9,7 +9,7 @@ use lib.Seq.{drop-at, take-at, drop-drop}
 use Rattle.part.specs.Part.{Sound}
 use Rattle.part.specs.declared.Geometry.{Geometry}
 use Rattle.buslog.specs.Log.{bytesOf, written, Bytes}
-use Rattle.buslog.specs.Read.{ends, found, front, nextOf, parse}
+use Rattle.buslog.specs.Read.{found, front, nextOf, parse}
 use Rattle.buslog.specs.Write.{over}
 use Rattle.buslog.specs.declared.Record.{Record}
 use Rattle.buslog.specs.declared.Record.the-variants.{Select, Shift, Deselect, Units, Level, Power}
@@ -169,3 +169,11 @@ pub going-as : (g : Geometry) (log out₀ : List ℕ) (m₀ : Machine) (records 
 going-as g log out₀ m₀ records at {count} {count′} {out} {out′} {m} {m′} c o e h =
     subst⁻¹ (λ (x : ℕ). Going g log out₀ m₀ records at x out′ m′) c
     (subst⁻¹ (λ (x : List ℕ). Going g log out₀ m₀ records at count x m′) o (subst⁻¹ (λ (x : Machine). Going g log out₀ m₀ records at count out x) e h))
+
+-- a record done where its output has room, the values those that the code has
+pub going-turn : {g : Geometry} {log out₀ : List ℕ} {m₀ : Machine} {records at count : ℕ} {out out′ : List ℕ} {m m′ : Machine} {e : Record} {n t : ℕ} → Sound g → Bytes log
+    → Going g log out₀ m₀ records at count out m → nextOf log at ≡ Found e n → t ≡ takes e → t ≤ length out - count → out′ ≡ over out count (puts g m e) → m′ ≡ step g (stepping g) m e
+    → Going g log out₀ m₀ (records + 1) n (count + t) out′ m′
+going-turn {g} {log} {out₀} {m₀} {records} {at} {count} {out} {m = m} {e} {n} s b h p r k o q =
+    going-as g log out₀ m₀ (records + 1) n (ap (λ (x : ℕ). count + x) r) o q
+    (going-next g log out₀ m₀ records at count out m h s e n p (byte-found log at b e n p) (omega (arith, r, k, out-long g log out₀ m₀ records at count out m h)))

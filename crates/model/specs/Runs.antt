@@ -97,9 +97,13 @@ pub record End : Type 0 where
 abbrev pub ended : Answer → List ℕ → List ℕ → List ℕ → List ℕ → End
 ended a cells cache counts out = record { answer = a; cells = cells; cache = cache; counts = counts; out = out }
 
+-- the answer where so much was done
+abbrev pub answered : Refusal → State → ℕ → ℕ → ℕ → Answer
+answered r s records used written = record { refusal = r; state = s; records = records; used = used; written = written }
+
 -- the answer where nothing was done
 abbrev pub nothing : Refusal → State → Answer
-nothing r s = record { refusal = r; state = s; records = 0; used = 0; written = 0 }
+nothing r s = answered r s 0 0 0
 
 -- an outcome, with the output laid over the old bytes: those past the written ones are as they were
 abbrev pub shown : Outcome → List ℕ → End

@@ -11,7 +11,10 @@ ghost use Rattle.device.specs.Work.{stepping};
 ghost use Rattle.device.specs.Step.{step, pinsOf};
 ghost use Rattle.kept.specs.Kept.{SoundMachine};
 ghost use Rattle.model.specs.Refusals.{refusalOf, checkOf, passed, numberOf};
-ghost use Rattle.model.specs.Runs.{takes, puts, ranOf, runOf, nothing, ended, shown};
+ghost use Rattle.model.specs.Runs.{takes, puts, ranOf, runOf, nothing, answered, ended, shown};
+
+mod stream;
+
 use buslog::Next;
 use buslog::Record;
 use buslog::Why;
@@ -125,6 +128,19 @@ fn stopped(r: Refusal, state: State) -> Answer
     }
 }
 
+// What was done so far, and why no more is.
+fn so_far(r: Refusal, s: State, records: usize, used: usize, written: usize) -> Answer
+    ensures { λ a. ⌜ a ≡ answered r s records used written ⌝ }
+{
+    Answer {
+        refusal: r,
+        state: s,
+        records: records,
+        used: used,
+        written: written,
+    }
+}
+
 // The output room that a record takes.
 fn room_of(e: Record) -> usize
     ensures { λ r. ⌜ r ≡ takes e ⌝ }
@@ -199,29 +215,26 @@ fn go(
     loop {
         match buslog::next_at(log, at) {
             Next::Stop(w) => {
-                return Answer {
-                    refusal: refusal_of(w),
-                    state: s,
-                    records: records,
-                    used: at,
-                    written: written,
-                };
+                return so_far(refusal_of(w), s, records, at, written);
             }
             Next::Found(e, place) => {
                 let takes = room_of(e);
                 if out.len() - written < takes {
-                    return Answer {
-                        refusal: Refusal::NoRoom,
-                        state: s,
-                        records: records,
-                        used: at,
-                        written: written,
-                    };
+                    return so_far(Refusal::NoRoom, s, records, at, written);
                 }
                 s = turn(g, s, e, written, cells, cache, counts, out);
                 at = place;
                 records += 1;
                 written += takes;
+                if !stream::streams(s.bus.transfer) {
+                    continue;
+                }
+                let b = stream::shifts(s, log, at, cache, out, written);
+                let t = b.state;
+                s = t;
+                at += 2 * b.count;
+                records += b.count;
+                written += b.count;
             }
         }
     }
