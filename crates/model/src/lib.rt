@@ -129,7 +129,7 @@ fn stopped(r: Refusal, state: State) -> Answer
 }
 
 // What was done so far, and why no more is.
-fn so_far(r: Refusal, s: State, records: usize, used: usize, written: usize) -> Answer
+pub fn so_far(r: Refusal, s: State, records: usize, used: usize, written: usize) -> Answer
     ensures { λ a. ⌜ a ≡ answered r s records used written ⌝ }
 {
     Answer {

@@ -21,7 +21,7 @@ use Rattle.device.specs.Work.{stepping}
 use Rattle.device.specs.Step.{step}
 use Rattle.kept.specs.Kept.{SoundMachine, ByteIn}
 use Rattle.model.specs.Refusals.{refusalOf}
-use Rattle.model.specs.Runs.{takes, fitting, puts, Outcome, ranOf, runOf, End, shown}
+use Rattle.model.specs.Runs.{answered, takes, fitting, puts, Outcome, ranOf, runOf, End, shown}
 use Rattle.model.specs.declared.Refusal.{Refusal}
 use Rattle.model.specs.declared.Refusal.the-variants.{NoRoom}
 use Rattle.model.proofs.Loop.{Going, Seen, going-start, going-next, going-ends, going-full, further, out-long}
@@ -30,7 +30,7 @@ use Rattle.answers.proofs.Parts.{fine-of}
 use Rattle.answers.proofs.Records.{fitting-first}
 use Rattle.whole.specs.Orderly.{idle, allowed, orderly, starts}
 use Rattle.whole.specs.Demand.{Given, given}
-use Rattle.orderly.specs.Judge.{judged, judgementOf, stopped, closed}
+use Rattle.orderly.specs.Judge.{judged, judgementOf, closed}
 
 -- the records that find room, from a place of the log and of the output on
 abbrev left : List ℕ → List ℕ → ℕ → ℕ → List Record
@@ -69,7 +69,7 @@ module _ {g : Geometry} {log out₀ : List ℕ} {m₀ : Machine} {records at cou
 
   -- what the loop holds, seen as the judgement on the whole run
   abbrev pub Told : Refusal → Type 0
-  Told r = judged (closed (stopped r (m .state) records at count) ok) (m .store .cells) (m .store .cache) (m .counts) out ≡ judgementOf (handed g log out₀ m₀)
+  Told r = judged (closed (answered r (m .state) records at count) ok) (m .store .cells) (m .store .cache) (m .counts) out ≡ judgementOf (handed g log out₀ m₀)
 
   -- no record is left that finds room
   stop-with : Sound g → SoundMachine g m₀ → (r : Refusal) → left log out₀ at count ≡ [] → Seen g log out₀ m₀ records at count out m (h .going) r → Told r

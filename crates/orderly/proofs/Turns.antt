@@ -25,7 +25,7 @@ use Rattle.device.specs.Work.{stepping}
 use Rattle.device.specs.Step.{step}
 use Rattle.kept.specs.Kept.{SoundMachine}
 use Rattle.model.specs.Refusals.{numberOf, refusalOf}
-use Rattle.model.specs.Runs.{takes, puts, Outcome, runOf, End, ended, nothing, shown}
+use Rattle.model.specs.Runs.{answered, takes, puts, Outcome, runOf, End, ended, nothing, shown}
 use Rattle.model.specs.declared.Refusal.{Refusal}
 use Rattle.model.specs.declared.Refusal.the-variants.{NoRoom}
 use Rattle.model.proofs.Loop.{byte-found}
@@ -34,7 +34,7 @@ use Rattle.model.proofs.Single.{single-full, single-done, one, shown-none, show
 use Rattle.answers.proofs.Lines.{is-fine}
 use Rattle.answers.proofs.Parts.{fine-of}
 use Rattle.whole.specs.Orderly.{allowed}
-use Rattle.orderly.specs.Judge.{judged, judgementOf, stopped, closed}
+use Rattle.orderly.specs.Judge.{judged, judgementOf, closed}
 use Rattle.orderly.proofs.Judging.{Judging, handed, Told, as-long, judging-ends, judging-full, judging-next}
 
 -- ---- the part of a list from a place on, and the list with another in its place
@@ -98,13 +98,13 @@ module _ {g : Geometry} {log out₀ : List ℕ} {m₀ : Machine} {records at cou
 
   -- the run ends with what came back, and is judged
   abbrev pub Ends : End → Type 0
-  Ends r = judged (closed (stopped (r .answer .refusal) (m .state) records at count) ok) (r .cells) (r .cache) (r .counts) (putBack count out (r .out)) ≡ judgementOf (handed g log out₀ m₀)
+  Ends r = judged (closed (answered (r .answer .refusal) (m .state) records at count) ok) (r .cells) (r .cache) (r .counts) (putBack count out (r .out)) ≡ judgementOf (handed g log out₀ m₀)
 
   -- where nothing was done, all lent memory is as it was
   ends-as : (why : Refusal) (r : End) → r ≡ ended (nothing why (m .state)) (m .store .cells) (m .store .cache) (m .counts) (rest count out) → Told h why → Ends r
   ends-as why r d t =
       subst⁻¹ Ends d
-      (ap (λ (o : List ℕ). judged (closed (stopped why (m .state) records at count) ok) (m .store .cells) (m .store .cache) (m .counts) o) (put-same count (length out - count) out) ∙ t)
+      (ap (λ (o : List ℕ). judged (closed (answered why (m .state) records at count) ok) (m .store .cells) (m .store .cache) (m .counts) o) (put-same count (length out - count) out) ∙ t)
 
   -- no record stands at the place
   pub rest-refused : {w : Why} → nextOf log at ≡ Stop w → {r : End} → r ≡ shown (runOf g (stepping g) (length (rest count out)) (rest at log) m) (rest count out) → Ends r

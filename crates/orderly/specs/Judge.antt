@@ -2,10 +2,8 @@
 use mathlib.Core.Bool.{Bool, _&&_}
 use mathlib.Core.List.{List}
 use Prim.Native.Nat.{ℕ}
-use Rattle.device.specs.declared.State.{State}
 use Rattle.model.specs.Runs.{End, ended}
 use Rattle.model.specs.declared.Answer.{Answer}
-use Rattle.model.specs.declared.Refusal.{Refusal}
 use Rattle.whole.specs.Orderly.{idle}
 use Rattle.whole.specs.Demand.{Given, endOf, supposed}
 use Rattle.orderly.specs.declared.Judged.{Judged}
@@ -22,10 +20,6 @@ judged r cells cache counts out = record { end = ended (r .answer) cells cache c
 -- the judgement that demand 3 asks for: the end is that of `run`, and the test is that of the suppositions on it
 abbrev pub judgementOf : Given → Judgement
 judgementOf i = record { end = endOf i; orderly = supposed i (endOf i) }
-
--- the answer where a run stopped
-abbrev pub stopped : Refusal → State → ℕ → ℕ → ℕ → Answer
-stopped r s records used written = record { refusal = r; state = s; records = records; used = used; written = written }
 
 -- an answer judged: it must be idle as well
 abbrev pub closed : Answer → Bool → Judged

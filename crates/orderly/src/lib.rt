@@ -7,14 +7,13 @@ ghost use Rattle.device.specs.Machine.{machine};
 ghost use Rattle.kept.specs.Kept.{SoundMachine};
 ghost use Rattle.whole.specs.Orderly.{idle, first, unknown, resetting, allowed, firstRead, upRegisters, upTransfer, atPowerUp, starts};
 ghost use Rattle.whole.specs.Demand.{given};
-ghost use Rattle.orderly.specs.Judge.{judged, judgementOf, stopped, closed};
+ghost use Rattle.orderly.specs.Judge.{judged, judgementOf, closed};
 use array::Job;
 use array::Work;
 use buslog::Next;
 use buslog::Record;
 use device::State;
 use model::Answer;
-use model::Refusal;
 use part::Geometry;
 use registers::Registers;
 use transfer::Bus;
@@ -154,19 +153,6 @@ pub fn starts(s: State) -> bool
     either(at_power_up(s), idle(s))
 }
 
-// A run stopped: what it answers.
-fn stopped(r: Refusal, state: State, records: usize, used: usize, written: usize) -> Answer
-    ensures { λ a. ⌜ a ≡ stopped r state records used written ⌝ }
-{
-    Answer {
-        refusal: r,
-        state: state,
-        records: records,
-        used: used,
-        written: written,
-    }
-}
-
 // An answer judged: the end must be idle as well.
 fn closed(answer: Answer, ok: bool) -> Judged
     ensures { λ r. ⌜ r ≡ closed answer ok ⌝ }
@@ -205,14 +191,14 @@ fn go(
             Next::Stop(_) => {
                 let a = model::run(g, s, &log[at..], cells, cache, counts, &mut out[written..]);
                 let r = a.refusal;
-                return closed(stopped(r, s, records, at, written), ok);
+                return closed(model::so_far(r, s, records, at, written), ok);
             }
             Next::Found(e, place) => {
                 let next = both(ok, allowed(s, e));
                 let a = model::step(g, s, e, cells, cache, counts, &mut out[written..]);
                 let r = a.refusal;
                 if model::number_of(r) != 0 {
-                    return closed(stopped(r, s, records, at, written), ok);
+                    return closed(model::so_far(r, s, records, at, written), ok);
                 }
                 ok = next;
                 s = a.state;
