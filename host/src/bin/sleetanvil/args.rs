@@ -23,10 +23,11 @@ options of replay:
                   read to its end; may be the file of --image
   --trace         print a line for each transfer and each other record
   --bytes N       data bytes that a line of the trace shows; 16 if not given
-  --judge         print `orderly` or `not orderly` before the last line: whether
-                  the log begins and ends idle, or begins at power-up, and no
-                  command but Get Feature, Read ID and Reset is begun, no reset
-                  and no power loss takes effect while the array is busy
+  --judge         print `orderly` or `not orderly` before the last line. A log
+                  is orderly if while the array is busy no command is begun but
+                  Get Feature, Read ID and Reset, no reset and no power loss
+                  takes effect, and if it ends with the array idle: its end then
+                  does not depend on when the array's work is done
 
 The replay begins at power-up. The last line printed is `end`, the number of
 refusal and the records done; `end 0 8` is a log of 8 records read to its end.
