@@ -40,7 +40,7 @@ impl Pen {
 }
 
 // The value of a hex digit; 16 for another letter.
-pub fn digit(c: u8) -> u8 {
+pub(crate) fn digit(c: u8) -> u8 {
     match c {
         b'0'..=b'9' => c - b'0',
         b'A'..=b'F' => c - b'A' + 10,
@@ -76,7 +76,7 @@ fn letter(pen: Pen, c: u8, log: &mut [u8; 2048]) -> Pen {
 }
 
 // Writes the log of a script, and returns its length.
-pub fn written(script: &[u8], log: &mut [u8; 2048]) -> usize {
+pub(crate) fn written(script: &[u8], log: &mut [u8; 2048]) -> usize {
     let mut pen = Pen {
         at: 0,
         half: false,

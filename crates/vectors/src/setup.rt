@@ -12,7 +12,7 @@ use transfer::Bus;
 use transfer::Transfer;
 
 // The numbers of a setup, each at its place below, and the place of the one that is being read.
-pub struct Setup {
+pub(crate) struct Setup {
     numbers: [u32; 28],
     at: usize,
 }
@@ -60,27 +60,27 @@ const ROW: usize = 17;
 const UNITS: usize = 18;
 
 // The lengths lent, and the first content: byte i is start + i times step, without the carry. All counts have one value.
-pub const CELLS: usize = 19;
+pub(crate) const CELLS: usize = 19;
 
-pub const CELLS_START: usize = 20;
+pub(crate) const CELLS_START: usize = 20;
 
-pub const CELLS_STEP: usize = 21;
+pub(crate) const CELLS_STEP: usize = 21;
 
-pub const CACHE: usize = 22;
+pub(crate) const CACHE: usize = 22;
 
-pub const CACHE_START: usize = 23;
+pub(crate) const CACHE_START: usize = 23;
 
-pub const CACHE_STEP: usize = 24;
+pub(crate) const CACHE_STEP: usize = 24;
 
-pub const COUNTS: usize = 25;
+pub(crate) const COUNTS: usize = 25;
 
-pub const COUNTS_START: usize = 26;
+pub(crate) const COUNTS_START: usize = 26;
 
-pub const OUTPUT: usize = 27;
+pub(crate) const OUTPUT: usize = 27;
 
 impl Setup {
     // The numbers of a line: hex, with one space between two; what is missing is 0.
-    pub fn read(text: &[u8]) -> Setup {
+    pub(crate) fn read(text: &[u8]) -> Setup {
         let mut s = Setup {
             numbers: [0u32; 28],
             at: 0,
@@ -111,11 +111,11 @@ impl Setup {
     }
 
     // A number of the setup as a byte, and as a length; 0 past the last place.
-    pub fn byte(self, at: usize) -> u8 {
+    pub(crate) fn byte(self, at: usize) -> u8 {
         (self.number(at) % 256) as u8
     }
 
-    pub fn length(self, at: usize) -> usize {
+    pub(crate) fn length(self, at: usize) -> usize {
         self.number(at) as usize
     }
 
@@ -129,7 +129,7 @@ impl Setup {
     }
 
     // The part, with the bench part's identity.
-    pub fn geometry(self) -> Geometry {
+    pub(crate) fn geometry(self) -> Geometry {
         Geometry {
             main: self.number(MAIN),
             spare: self.number(SPARE),
@@ -175,7 +175,7 @@ impl Setup {
     }
 
     // The state handed in.
-    pub fn state(self) -> State {
+    pub(crate) fn state(self) -> State {
         let regs = self.registers();
         let pins = Pins {
             wp: self.number(WP) == 1,

@@ -44,7 +44,7 @@ impl Tally {
     }
 }
 
-pub fn text(s: &[u8]) {
+pub(crate) fn text(s: &[u8]) {
     io::write_all(STDOUT_FILENO, s);
 }
 
@@ -59,7 +59,7 @@ fn hex(s: &[u8], b: u8) {
 }
 
 // The bytes of a slice in hex.
-pub fn bytes(s: &[u8]) {
+pub(crate) fn bytes(s: &[u8]) {
     let mut i = 0;
     while i < s.len() {
         hex(b"", s[i]);
@@ -81,7 +81,7 @@ fn changed(s: &[u8], start: u8, step: u8) -> Tally {
 }
 
 // The label, how many bytes changed and, where any did, the first and the last place and the sum.
-pub fn changes(label: &[u8], s: &[u8], start: u8, step: u8) {
+pub(crate) fn changes(label: &[u8], s: &[u8], start: u8, step: u8) {
     let c = changed(s, start, step);
     number(label, c.count as usize);
     if c.count == 0 {
@@ -102,7 +102,7 @@ fn count(row: usize, n: u8) {
     number(b":", n as usize);
 }
 
-pub fn counts(s: &[u8]) {
+pub(crate) fn counts(s: &[u8]) {
     text(b" counts");
     let mut i = 0;
     while i < s.len() {
@@ -185,7 +185,7 @@ fn state(s: State) {
 }
 
 // What a run answered: the numbers, the registers, WP#, the transfer and the operation in progress.
-pub fn answer(a: Answer) {
+pub(crate) fn answer(a: Answer) {
     let why = a.refusal;
     let s = a.state;
     totals(model::number_of(why), a.records, a.used, a.written);

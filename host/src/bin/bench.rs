@@ -144,36 +144,36 @@ fn idle() -> State {
 fn bus_read(page: usize) -> Task {
     let mut bytes = vec![0x03, 0x00, 0x00, 0x00];
     bytes.resize(4 + page, 0x00);
-    let mut log = Log::new();
-    log.transfer(&bytes);
-    Task {
-        name: "cache read on the bus",
-        per: "event",
-        count: bytes.len() + 2,
-        states: vec![idle()],
-        log,
-        less: None,
-        limit: Some(Box::new(move |_, buffers| {
-            buffers.out[..page].copy_from_slice(&buffers.cache)
-        })),
-    }
+    on_bus("cache read on the bus", &bytes, move |_, buffers| {
+        buffers.out[..page].copy_from_slice(&buffers.cache);
+    })
 }
 
 /// A transfer that loads a page into the cache register.
 fn bus_load(page: usize) -> Task {
     let bytes = load(0x84, &vec![0x5A; page]);
+    let data = bytes[3..].to_vec();
+    on_bus("cache load on the bus", &bytes, move |_, buffers| {
+        buffers.cache.copy_from_slice(&data);
+    })
+}
+
+/// One transfer of an idle device.
+fn on_bus(
+    name: &'static str,
+    bytes: &[u8],
+    limit: impl Fn(&State, &mut Buffers) + 'static,
+) -> Task {
     let mut log = Log::new();
-    log.transfer(&bytes);
+    log.transfer(bytes);
     Task {
-        name: "cache load on the bus",
+        name,
         per: "event",
         count: bytes.len() + 2,
         states: vec![idle()],
         log,
         less: None,
-        limit: Some(Box::new(move |_, buffers| {
-            buffers.cache.copy_from_slice(&bytes[3..])
-        })),
+        limit: Some(Box::new(limit)),
     }
 }
 

@@ -25,26 +25,22 @@ impl Generator {
     /// Any case.
     pub fn case(&mut self) -> Case {
         let geometry = self.geometry();
-        let [cells, cache, counts] = self.memory(&geometry);
+        let memory = self.memory(&geometry);
         let state = self.state(&geometry);
-        let log = self.log(&geometry);
-        let room = self.room(&log);
-        Case {
-            geometry,
-            state,
-            cells,
-            cache,
-            counts,
-            room,
-            log,
-        }
+        self.case_of(geometry, memory, state)
     }
 
     /// A case that is not refused before its first record.
     pub fn sound_case(&mut self) -> Case {
         let geometry = self.sound_geometry();
-        let [cells, cache, counts] = self.sound_memory(&geometry);
+        let memory = self.sound_memory(&geometry);
         let state = self.sound_state(&geometry);
+        self.case_of(geometry, memory, state)
+    }
+
+    /// The same with a log and room for its output.
+    fn case_of(&mut self, geometry: Geometry, memory: [Fill; 3], state: State) -> Case {
+        let [cells, cache, counts] = memory;
         let log = self.log(&geometry);
         let room = self.room(&log);
         Case {
