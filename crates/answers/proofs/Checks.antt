@@ -13,10 +13,9 @@ use Rattle.part.proofs.Laws as Laws
 use Rattle.device.specs.Machine.{Machine}
 use Rattle.device.specs.Sound.{SoundState, soundState}
 use Rattle.kept.proofs.Exactly as Exactly
-use Rattle.model.specs.Refusals.{checkOf, passed}
-use Rattle.model.specs.Runs.{checkedAs}
-use Rattle.model.specs.declared.Refusal.{Refusal}
-use Rattle.model.specs.declared.Refusal.the-variants.{Done, BadPart, BadCells, BadCache, BadCounts, BadState, BadKind, ShortBody, BadLevel, NoRoom}
+use Rattle.refusals.specs.Refusals.{checkOf, passed, checkedAs}
+use Rattle.refusals.specs.declared.Refusal.{Refusal}
+use Rattle.refusals.specs.declared.Refusal.the-variants.{Done, BadPart, BadCells, BadCache, BadCounts, BadState, BadKind, ShortBody, BadLevel, NoRoom}
 use Rattle.answers.specs.Table.{CellsFit, CacheFits, CountsFit, Fine}
 
 -- ---- a test that fails

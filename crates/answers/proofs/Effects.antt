@@ -14,10 +14,10 @@ use Rattle.buslog.specs.declared.Record.{Record}
 use Rattle.device.specs.Machine.{Machine}
 use Rattle.device.specs.Work.{Array}
 use Rattle.device.specs.Step.{run}
-use Rattle.model.specs.Refusals.{numberOf, refusalOf, passed}
-use Rattle.model.specs.Runs.{shiftsIn, Outcome, did, ranOf, checkedAs, runOf}
-use Rattle.model.specs.declared.Refusal.{Refusal}
-use Rattle.model.specs.declared.Refusal.the-variants.{Done, BadKind, ShortBody, BadLevel, NoRoom}
+use Rattle.refusals.specs.Refusals.{numberOf, refusalOf, passed, checkedAs}
+use Rattle.model.specs.Runs.{shiftsIn, Outcome, did, ranOf, runOf}
+use Rattle.refusals.specs.declared.Refusal.{Refusal}
+use Rattle.refusals.specs.declared.Refusal.the-variants.{Done, BadKind, ShortBody, BadLevel, NoRoom}
 use Rattle.answers.specs.Table.{Stops, Full, Line, read-to-its-end, geometry-not-sound, cells-wrong, cache-wrong, counts-wrong, state-not-sound, kind-not-in-table, ends-inside-body, level-above-1, no-room-left}
 use Rattle.answers.specs.Promises.{NothingDone, FoldOfStep, Effects}
 use Rattle.answers.proofs.Records.{fitting-first}

@@ -16,10 +16,10 @@ use Rattle.buslog.specs.declared.Why.the-variants as why
 use Rattle.buslog.specs.declared.Record.the-variants.{Shift}
 use Rattle.device.specs.Machine.{Machine}
 use Rattle.device.specs.Work.{Array}
-use Rattle.model.specs.Refusals.{numberOf, refusalOf, passed}
-use Rattle.model.specs.Runs.{shiftsIn, Outcome, did, ranOf, checkedAs, runOf}
-use Rattle.model.specs.declared.Refusal.{Refusal}
-use Rattle.model.specs.declared.Refusal.the-variants.{Done, BadPart, BadCells, BadCache, BadCounts, BadState, BadKind, ShortBody, BadLevel, NoRoom}
+use Rattle.refusals.specs.Refusals.{numberOf, refusalOf, passed, checkedAs}
+use Rattle.model.specs.Runs.{shiftsIn, Outcome, did, ranOf, runOf}
+use Rattle.refusals.specs.declared.Refusal.{Refusal}
+use Rattle.refusals.specs.declared.Refusal.the-variants.{Done, BadPart, BadCells, BadCache, BadCounts, BadState, BadKind, ShortBody, BadLevel, NoRoom}
 use Rattle.model.proofs.Rooms.{shifts-append, fitting-all, fitting-full}
 use Rattle.answers.specs.Table.{Fine, Stops, Full, Line, read-to-its-end, geometry-not-sound, cells-wrong, cache-wrong, counts-wrong, state-not-sound, kind-not-in-table, ends-inside-body, level-above-1, no-room-left}
 use Rattle.answers.specs.Promises.{Exactly}

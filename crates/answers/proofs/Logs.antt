@@ -12,7 +12,8 @@ use Rattle.buslog.specs.declared.Record.{Record}
 use Rattle.buslog.specs.declared.Record.the-variants.{Select, Shift, Deselect, Units, Level, Power}
 use Rattle.buslog.proofs.Logs.{joined, parse-ends, parse-found, parse-written-front, written-rest, rest-front, written-append}
 use Rattle.buslog.proofs.Endings.{front-ends-as, as-front-ends}
-use Rattle.model.specs.Runs.{takes, shiftsIn}
+use Rattle.walk.specs.Turns.{takes}
+use Rattle.model.specs.Runs.{shiftsIn}
 use Rattle.answers.specs.Table.{Stops, Full}
 use Rattle.answers.proofs.Records.{levels-read, levels-front}
 

@@ -16,9 +16,9 @@ use Rattle.device.specs.Step.{run}
 use Rattle.device.specs.Sound.{SoundState}
 use Rattle.kept.specs.Kept.{SoundMachine, BytesIn}
 use Rattle.kept.proofs.Steps.{run-keeps}
-use Rattle.model.specs.Refusals.{numberOf, passed}
-use Rattle.model.specs.Runs.{shiftsIn, fitting, Outcome, andThen, ranOf, checkedAs, runOf}
-use Rattle.model.specs.declared.Refusal.the-variants.{Done}
+use Rattle.refusals.specs.Refusals.{numberOf, passed, checkedAs}
+use Rattle.model.specs.Runs.{shiftsIn, fitting, Outcome, andThen, ranOf, runOf}
+use Rattle.refusals.specs.declared.Refusal.the-variants.{Done}
 use Rattle.model.proofs.Rooms.{shifts-append, fitting-parts, out-length, ltb-less, did-parts}
 use Rattle.answers.specs.Table.{Fine, Stops, Line, read-to-its-end}
 use Rattle.answers.specs.Promises.{ReturnsSound, InParts}

@@ -11,7 +11,8 @@ use Rattle.buslog.specs.declared.Record.{Record}
 use Rattle.buslog.specs.declared.Record.the-variants.{Select, Shift, Deselect, Units, Level, Power}
 use Rattle.buslog.proofs.Logs.{Reading, stops, reads, reading, parse-ends, parse-found, written-rest}
 use Rattle.buslog.proofs.RoundTrip.{levels-low}
-use Rattle.model.specs.Runs.{takes, fitting}
+use Rattle.walk.specs.Turns.{takes}
+use Rattle.model.specs.Runs.{fitting}
 use Rattle.kept.specs.Kept.{BytesIn}
 
 -- ---- levels

@@ -11,9 +11,9 @@ use Rattle.device.specs.Machine.{Machine}
 use Rattle.device.specs.Work.{Array, stepping}
 use Rattle.device.specs.Step.{run}
 use Rattle.device.specs.Sound.{SoundState}
-use Rattle.model.specs.Refusals.{numberOf}
+use Rattle.refusals.specs.Refusals.{numberOf}
 use Rattle.model.specs.Runs.{andThen, did, runOf}
-use Rattle.model.specs.declared.Refusal.the-variants.{Done}
+use Rattle.refusals.specs.declared.Refusal.the-variants.{Done}
 use Rattle.answers.specs.Table.{Stops, Full, Line}
 
 -- number n is given if and only if line n holds

@@ -9,7 +9,7 @@ use Rattle.part.specs.declared.Column.{Column}
 use Rattle.part.specs.declared.Geometry.{Geometry}
 use Rattle.part.proofs.Choice.{cond-keep}
 use Rattle.registers.specs.Registers.{oip}
-use Rattle.transfer.specs.Transfer.{byteOf, instructionOf, open?, heardAs, fresh, selects, columnBytes, columnAfter, begun, later, heard, shiftedIn}
+use Rattle.transfer.specs.Transfer.{noByte, byteOf, instructionOf, open?, heardAs, fresh, selects, columnBytes, columnAfter, instructed, later, heard, shiftedIn}
 use Rattle.transfer.specs.declared.Bus.{Bus}
 use Rattle.transfer.specs.declared.Transfer.{Transfer}
 use Rattle.transfer.specs.declared.Instruction.{Instruction}
@@ -36,7 +36,7 @@ selects-on-bus c x h = cond-keep (OnBus c) (x .transfer .selected) (λ e. h) (λ
 
 -- letIn, over the instruction
 abbrev openAs : Instruction → Bool
-openAs i = eqb (byteOf i) 0x0F || eqb (byteOf i) 0x9F || eqb (byteOf i) 0xFF || eqb (byteOf i) 256
+openAs i = eqb (byteOf i) 0x0F || eqb (byteOf i) 0x9F || eqb (byteOf i) 0xFF || eqb (byteOf i) noByte
 
 -- the three first bytes that are let in are heard as themselves
 open-as : (b : ℕ) → open? b ≡ true → T (openAs (instructionOf b))
@@ -54,8 +54,8 @@ heard-open true b t = cond-keep (λ (i : Instruction). T (openAs i)) (not (open?
 heard-open false b t = absurd t
 
 -- so what a first byte begins while busy is let in
-begun-on-bus : (c b : ℕ) (t : Transfer) → OnBus c t → OnBus c (begun (oip c) b t)
-begun-on-bus c b t h = record { count-small = omega arith; column-small = h .column-small; let-in = λ o s n. heard-open (oip c) b o }
+instructed-on-bus : (c b : ℕ) (t : Transfer) → OnBus c t → OnBus c (instructed (oip c) b t)
+instructed-on-bus c b t h = record { count-small = omega arith; column-small = h .column-small; let-in = λ o s n. heard-open (oip c) b o }
 
 -- ---- a later byte
 
@@ -78,7 +78,7 @@ pub shifted-on-bus : (g : Geometry) (c b : ℕ) (x : Bus) → b < 256 → OnBus 
 unfolding shiftedIn
 shifted-on-bus g c b x l h =
     cond-keep (λ (x : Bus). OnBus c (x .transfer)) (heard x)
-    (λ e. cond-keep (OnBus c) (eqb (t .count) 0) (λ e. begun-on-bus c b t h) (λ e. later-on-bus c b t l (some-T (t .count) .0 (rw e tt)) h))
+    (λ e. cond-keep (OnBus c) (eqb (t .count) 0) (λ e. instructed-on-bus c b t h) (λ e. later-on-bus c b t l (some-T (t .count) .0 (rw e tt)) h))
     (λ e. h)
   where
     t : Transfer

@@ -11,7 +11,7 @@ use Rattle.buslog.specs.declared.Record.{Record}
 use Rattle.buslog.specs.declared.Record.the-variants.{Select, Shift, Deselect, Units, Level, Power}
 use Rattle.array.specs.Jobs.{Fits}
 use Rattle.device.specs.Machine.{Machine}
-use Rattle.device.specs.Work.{stepping}
+use Rattle.device.specs.Work.{Array, stepping}
 use Rattle.device.specs.Step.{powerUp, step, run}
 use Rattle.device.specs.Sound.{SoundState, soundState}
 use Rattle.device.specs.declared.State.{State}
@@ -43,9 +43,13 @@ SoundExactly = (g : Geometry) (s : State) → T (soundState g s) ↔ SoundState 
 abbrev pub PowerUpSound : Type 0
 PowerUpSound = (g : Geometry) → Sound g → SoundState g powerUp
 
+-- an array over which every step keeps soundness and lengths
+abbrev pub Keeps : Geometry → Array → Type 0
+Keeps g arr = (m : Machine) (e : Record) → ByteIn e → SoundMachine g m → SoundMachine g (step g arr m e)
+
 -- every step keeps soundness and lengths
 abbrev pub StepKeeps : Type 0
-StepKeeps = (g : Geometry) → Sound g → (m : Machine) (e : Record) → ByteIn e → SoundMachine g m → SoundMachine g (step g (stepping g) m e)
+StepKeeps = (g : Geometry) → Sound g → Keeps g (stepping g)
 
 -- and so does every run
 abbrev pub RunKeeps : Type 0

@@ -5,10 +5,6 @@ use Prim.Native.Nat.{ℕ}
 use denote.Ref.{now}
 use Rattle.part.specs.OneAnswer.{OneAnswer, OneEnd}
 use Rattle.model.specs.Runs.{End}
-use Rattle.model.proofs.number_of.Reads as number-of-reads
-use Rattle.model.proofs.number_of.Kinds as number-of-kinds
-use Rattle.model.proofs.so_far.Reads as so-far-reads
-use Rattle.model.proofs.so_far.Kinds as so-far-kinds
 use Rattle.model.proofs.run.Reads as run-reads
 use Rattle.model.proofs.run.Kinds as run-kinds
 use Rattle.model.proofs.step.Reads as step-reads
@@ -26,12 +22,6 @@ lentOf e = record { cells = e .cells; cache = e .cache; counts = e .counts; out 
 
 abbrev pub lent : List ℕ → List ℕ → List ℕ → List ℕ → Lent
 lent cells cache counts out = record { cells = cells; cache = cache; counts = counts; out = out }
-
-pub number-of-one : OneAnswer 0 number-of-kinds.ps number-of-kinds.r number-of-reads.Post
-number-of-one κs a x y s t p q = p ∙ sym q
-
-pub so-far-one : OneAnswer 0 so-far-kinds.ps so-far-kinds.r so-far-reads.Post
-so-far-one κs a x y s t p q = p ∙ sym q
 
 pub run-one : OneEnd 5 run-kinds.ps run-kinds.r Lent (λ κs s. lent (now (s .1 .1 .1 .0)) (now (s .1 .1 .1 .1 .0)) (now (s .1 .1 .1 .1 .1 .0)) (now (s .1 .1 .1 .1 .1 .1 .0))) run-reads.Post
 run-one κs a x y s t p q = (ap (λ (e : End). e .answer) (p ∙ sym q), ap lentOf (p ∙ sym q))

@@ -19,10 +19,11 @@ use Rattle.buslog.proofs.Logs.{written-append, parse-ends, parse-found}
 use Rattle.device.specs.Machine.{Machine}
 use Rattle.device.specs.Work.{Array}
 use Rattle.device.specs.Step.{step, run}
-use Rattle.model.specs.Refusals.{refusalOf}
-use Rattle.model.specs.Runs.{andThen, takes, shiftsIn, fitting, puts, bytesOut, did, ranOf}
-use Rattle.model.specs.declared.Refusal.{Refusal}
-use Rattle.model.specs.declared.Refusal.the-variants.{Done, NoRoom}
+use Rattle.refusals.specs.Refusals.{refusalOf}
+use Rattle.walk.specs.Turns.{takes, puts}
+use Rattle.model.specs.Runs.{andThen, shiftsIn, fitting, bytesOut, did, ranOf}
+use Rattle.refusals.specs.declared.Refusal.{Refusal}
+use Rattle.refusals.specs.declared.Refusal.the-variants.{Done, NoRoom}
 
 pub shifts-append : (a b : List Record) → shiftsIn (a ++ b) ≡ shiftsIn a + shiftsIn b
 unfolding shiftsIn

@@ -8,27 +8,16 @@ use Rattle.part.specs.declared.Geometry.{Geometry}
 use Rattle.buslog.specs.Log.{written}
 use Rattle.buslog.specs.Read.{Parsed, parse}
 use Rattle.buslog.specs.declared.Record.{Record}
-use Rattle.buslog.specs.declared.Record.the-variants.{Select, Shift, Deselect, Units, Level, Power}
 use Rattle.device.specs.Machine.{Machine}
 use Rattle.device.specs.Work.{Array}
-use Rattle.device.specs.Instructions.{answer}
 use Rattle.device.specs.Step.{step, run}
-use Rattle.device.specs.declared.State.{State}
-use Rattle.model.specs.Refusals.{refusalOf, checkOf, passed}
-use Rattle.model.specs.declared.Answer.{Answer}
-use Rattle.model.specs.declared.Refusal.{Refusal}
-use Rattle.model.specs.declared.Refusal.the-variants.{NoRoom}
+use Rattle.refusals.specs.Refusals.{refusalOf, passed, checkedAs}
+use Rattle.refusals.specs.declared.Refusal.{Refusal}
+use Rattle.refusals.specs.declared.Refusal.the-variants.{NoRoom}
+use Rattle.walk.specs.Turns.{takes, puts}
+use Rattle.walk.specs.declared.Answer.{Answer}
 
 -- ---- the output: one byte a shift, in order
-
--- the output room that a record takes
-abbrev pub takes : Record → ℕ
-takes (Shift b) = 1
-takes Select = 0
-takes Deselect = 0
-takes (Units n) = 0
-takes (Level v) = 0
-takes Power = 0
 
 -- the shifts among records
 unfoldable pub shiftsIn : List Record → ℕ
@@ -39,15 +28,6 @@ shiftsIn (e ∷ es) = takes e + shiftsIn es
 unfoldable pub fitting : ℕ → List Record → List Record
 fitting room [] = []
 fitting room (e ∷ es) = if ltb room (takes e) then [] else e ∷ fitting (room - takes e) es
-
--- the byte that a record puts out, if it is a shift
-abbrev pub puts : Geometry → Machine → Record → List ℕ
-puts g m (Shift b) = answer g (m .state) (m .store .cache) ∷ []
-puts g m Select = []
-puts g m Deselect = []
-puts g m (Units n) = []
-puts g m (Level v) = []
-puts g m Power = []
 
 -- the bytes that records put out, one after another
 unfoldable pub bytesOut : Geometry → Array → Machine → List Record → List ℕ
@@ -72,10 +52,6 @@ did g arr m why es = record { refusal = why; machine = run g arr m es; records =
 unfoldable pub ranOf : Geometry → Array → ℕ → Parsed → Machine → Outcome
 ranOf g arr room p m = did g arr m (if ltb room (shiftsIn (p .records)) then NoRoom else refusalOf (p .why)) (fitting room (p .records))
 
--- what is checked before any record
-abbrev pub checkedAs : Geometry → Machine → Refusal
-checkedAs g m = checkOf g (m .state) (length (m .store .cells)) (length (m .store .cache)) (length (m .counts))
-
 -- the checks, and then the log
 unfoldable pub runOf : Geometry → Array → ℕ → List ℕ → Machine → Outcome
 runOf g arr room log m = if passed (checkedAs g m) then ranOf g arr room (parse log) m else did g arr m (checkedAs g m) []
@@ -96,14 +72,6 @@ pub record End : Type 0 where
 
 abbrev pub ended : Answer → List ℕ → List ℕ → List ℕ → List ℕ → End
 ended a cells cache counts out = record { answer = a; cells = cells; cache = cache; counts = counts; out = out }
-
--- the answer where so much was done
-abbrev pub answered : Refusal → State → ℕ → ℕ → ℕ → Answer
-answered r s records used written = record { refusal = r; state = s; records = records; used = used; written = written }
-
--- the answer where nothing was done
-abbrev pub nothing : Refusal → State → Answer
-nothing r s = answered r s 0 0 0
 
 -- an outcome, with the output laid over the old bytes: those past the written ones are as they were
 abbrev pub shown : Outcome → List ℕ → End

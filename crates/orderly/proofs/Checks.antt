@@ -13,10 +13,11 @@ use Rattle.buslog.specs.declared.Why.the-variants.{End}
 use Rattle.device.specs.Machine.{Machine, machine}
 use Rattle.device.specs.Work.{stepping}
 use Rattle.kept.specs.Kept.{SoundMachine}
-use Rattle.model.specs.Refusals.{numberOf, passed}
+use Rattle.refusals.specs.Refusals.{numberOf, passed, checkedAs}
 use Rattle.model.specs.Runs as runs
-use Rattle.model.specs.Runs.{Outcome, did, checkedAs, runOf, ended, nothing, shown}
-use Rattle.model.specs.declared.Refusal.the-variants.{Done}
+use Rattle.walk.specs.Turns.{nothing}
+use Rattle.model.specs.Runs.{Outcome, did, runOf, ended, shown}
+use Rattle.refusals.specs.declared.Refusal.the-variants.{Done}
 use Rattle.model.proofs.Rooms.{left-ends}
 use Rattle.model.proofs.Single.{shown-none}
 use Rattle.answers.specs.Table.{Fine}

@@ -20,10 +20,11 @@ use Rattle.device.specs.Machine.{Machine}
 use Rattle.device.specs.Work.{stepping}
 use Rattle.device.specs.Step.{step}
 use Rattle.kept.specs.Kept.{SoundMachine, ByteIn}
-use Rattle.model.specs.Refusals.{refusalOf}
-use Rattle.model.specs.Runs.{answered, takes, fitting, puts, Outcome, ranOf, runOf, End, shown}
-use Rattle.model.specs.declared.Refusal.{Refusal}
-use Rattle.model.specs.declared.Refusal.the-variants.{NoRoom}
+use Rattle.refusals.specs.Refusals.{refusalOf}
+use Rattle.walk.specs.Turns.{answered, takes, puts}
+use Rattle.model.specs.Runs.{fitting, Outcome, ranOf, runOf, End, shown}
+use Rattle.refusals.specs.declared.Refusal.{Refusal}
+use Rattle.refusals.specs.declared.Refusal.the-variants.{NoRoom}
 use Rattle.model.proofs.Loop.{Going, Seen, going-start, going-next, going-ends, going-full, further, out-long}
 use Rattle.answers.proofs.Lines.{is-fine}
 use Rattle.answers.proofs.Parts.{fine-of}

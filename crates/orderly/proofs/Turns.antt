@@ -24,10 +24,11 @@ use Rattle.device.specs.Machine.{Machine, machine}
 use Rattle.device.specs.Work.{stepping}
 use Rattle.device.specs.Step.{step}
 use Rattle.kept.specs.Kept.{SoundMachine}
-use Rattle.model.specs.Refusals.{numberOf, refusalOf}
-use Rattle.model.specs.Runs.{answered, takes, puts, Outcome, runOf, End, ended, nothing, shown}
-use Rattle.model.specs.declared.Refusal.{Refusal}
-use Rattle.model.specs.declared.Refusal.the-variants.{NoRoom}
+use Rattle.refusals.specs.Refusals.{numberOf, refusalOf}
+use Rattle.walk.specs.Turns.{answered, takes, puts, nothing}
+use Rattle.model.specs.Runs.{Outcome, runOf, End, ended, shown}
+use Rattle.refusals.specs.declared.Refusal.{Refusal}
+use Rattle.refusals.specs.declared.Refusal.the-variants.{NoRoom}
 use Rattle.model.proofs.Loop.{byte-found}
 use Rattle.model.proofs.Rooms.{left-ends}
 use Rattle.model.proofs.Single.{single-full, single-done, one, shown-none, shown-one}

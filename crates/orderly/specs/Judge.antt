@@ -3,7 +3,7 @@ use mathlib.Core.Bool.{Bool, _&&_}
 use mathlib.Core.List.{List}
 use Prim.Native.Nat.{ℕ}
 use Rattle.model.specs.Runs.{End, ended}
-use Rattle.model.specs.declared.Answer.{Answer}
+use Rattle.walk.specs.declared.Answer.{Answer}
 use Rattle.whole.specs.Orderly.{idle}
 use Rattle.whole.specs.Demand.{Given, endOf, supposed}
 use Rattle.orderly.specs.declared.Judged.{Judged}

@@ -13,7 +13,7 @@ use array::Work;
 use buslog::Next;
 use buslog::Record;
 use device::State;
-use model::Answer;
+use walk::Answer;
 use part::Geometry;
 use registers::Registers;
 use transfer::Bus;
@@ -197,7 +197,7 @@ fn go(
                 let next = both(ok, allowed(s, e));
                 let a = model::step(g, s, e, cells, cache, counts, &mut out[written..]);
                 let r = a.refusal;
-                if model::number_of(r) != 0 {
+                if refusals::number_of(r) != 0 {
                     return closed(model::so_far(r, s, records, at, written), ok);
                 }
                 ok = next;
@@ -226,7 +226,7 @@ pub fn judge(
 {
     let a = model::run(g, state, &log[0..0], cells, cache, counts, out);
     let r = a.refusal;
-    if model::number_of(r) != 0 {
+    if refusals::number_of(r) != 0 {
         return closed(a, starts(state));
     }
     go(g, state, log, cells, cache, counts, out)

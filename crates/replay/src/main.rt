@@ -49,7 +49,7 @@ fn finish(
     let mut out = [0xFFu8; 1];
     let a = model::run(Bench::geometry(), s, log, cells, cache, counts, &mut out);
     let r = a.refusal;
-    print_end(model::number_of(r), records);
+    print_end(refusals::number_of(r), records);
 }
 
 // The log, record by record, from power-up.

@@ -3,7 +3,7 @@ use mathlib.Core.Bool.{Bool, true, false, not, _&&_, _||_}
 use mathlib.Core.List.{List}
 use Prim.Native.Nat.{ℕ, _+_, _*_, _%_, min}
 use lib.Dec.{leb, eqb}
-use lib.ListN.{length, set, replicate}
+use lib.ListN.{length, getD, set, replicate}
 use Rattle.part.specs.Choice.{if_then_else_}
 use Rattle.part.specs.declared.Geometry.{Geometry}
 use Rattle.part.specs.declared.Row.{Row}
@@ -16,9 +16,13 @@ use Rattle.transfer.specs.declared.Instruction.the-variants.{Ignored, Wr
 
 -- ---- the codes
 
--- the paper's byte of an instruction (03h and 0Bh are one); no byte for what is ignored
+-- no byte: it stands for what is ignored
+abbrev pub noByte : ℕ
+noByte = 256
+
+-- the paper's byte of an instruction (03h and 0Bh are one)
 abbrev pub byteOf : Instruction → ℕ
-byteOf Ignored = 256
+byteOf Ignored = noByte
 byteOf WriteEnable = 0x06
 byteOf WriteDisable = 0x04
 byteOf GetFeature = 0x0F
@@ -61,24 +65,24 @@ abbrev pub is : Transfer → ℕ → Bool
 is t b = eqb (byteOf (t .instruction)) b
 
 -- the bytes of an instruction that acts as chip select rises; the others have nothing to do then
-abbrev pub bytesOf : Instruction → ℕ
-bytesOf WriteEnable = 1
-bytesOf WriteDisable = 1
-bytesOf SetFeature = 3
-bytesOf PageRead = 4
-bytesOf Execute = 4
-bytesOf BlockErase = 4
-bytesOf Reset = 1
-bytesOf Ignored = 0
-bytesOf GetFeature = 0
-bytesOf ReadId = 0
-bytesOf ReadCache = 0
-bytesOf Load = 0
-bytesOf LoadRandom = 0
+abbrev pub formBytes : Instruction → ℕ
+formBytes WriteEnable = 1
+formBytes WriteDisable = 1
+formBytes SetFeature = 3
+formBytes PageRead = 4
+formBytes Execute = 4
+formBytes BlockErase = 4
+formBytes Reset = 1
+formBytes Ignored = 0
+formBytes GetFeature = 0
+formBytes ReadId = 0
+formBytes ReadCache = 0
+formBytes Load = 0
+formBytes LoadRandom = 0
 
 -- exactly its bytes were shifted
 abbrev pub full : Transfer → Bool
-full t = eqb (t .count) (bytesOf (t .instruction))
+full t = eqb (t .count) (formBytes (t .instruction))
 
 -- ---- the bus with one part of it changed
 
@@ -134,8 +138,8 @@ columnAfter b t =
     else t .column
 
 -- the first byte is the instruction
-abbrev pub begun : Bool → ℕ → Transfer → Transfer
-begun busy b t =
+abbrev pub instructed : Bool → ℕ → Transfer → Transfer
+instructed busy b t =
     record {
       selected = t .selected;
       count = 1;
@@ -167,13 +171,17 @@ heard x = x .transfer .selected
 unfoldable pub shiftedIn : Geometry → Bool → ℕ → Bus → Bus
 shiftedIn g busy b x =
     let t = x .transfer in
-    if heard x then withTransfer (if eqb (t .count) 0 then begun busy b t else later b t) x else x
+    if heard x then withTransfer (if eqb (t .count) 0 then instructed busy b t else later b t) x else x
 
 -- ---- what a byte shifted does to the cache register
 
 -- a byte after the instruction is heard
 abbrev pub bodyHeard : Bus → Bool
 bodyHeard x = heard x && not (eqb (x .transfer .count) 0)
+
+-- the byte at a column of the cache register: FFh past P
+abbrev pub cacheByte : List ℕ → Column → ℕ
+cacheByte l c = getD l (c .0) 0xFF
 
 -- data is stored from the column on, and dropped past P
 abbrev pub stored : ℕ → Transfer → List ℕ → List ℕ

@@ -1,6 +1,7 @@
 // A transfer on the bus: chip select, the bytes shifted in, and what they do to the cache register. Document 01, "Instructions".
 ghost use mathlib.Core.Path.{_≡_};
-ghost use Rattle.transfer.specs.Transfer.{byteOf, instructionOf, open?, heardAs, is, bytesOf, full, withTransfer, withPins, fresh, selects, ends, more, next, columnOf, rowOf, columnBytes, columnAfter, begun, later, heard, shiftedIn, bodyHeard, stored, cached};
+ghost use lib.ListN.{set};
+ghost use Rattle.transfer.specs.Transfer.{byteOf, instructionOf, open?, heardAs, is, formBytes, full, withTransfer, withPins, fresh, selects, ends, more, next, columnOf, rowOf, columnBytes, columnAfter, instructed, later, heard, shiftedIn, bodyHeard, cacheByte, stored, cached};
 use part::Column;
 use part::Geometry;
 use part::Row;
@@ -63,12 +64,15 @@ pub fn instruction_of(b: u8) -> Instruction
     }
 }
 
-// The byte of an instruction; 256, which is none, for what is ignored.
+// Stands for the byte of what is ignored: it is no byte.
+pub const NO_BYTE: u16 = 256;
+
+// The byte of an instruction.
 pub fn byte_of(i: Instruction) -> u16
     ensures { λ r. ⌜ r ≡ byteOf i ⌝ }
 {
     match i {
-        Instruction::Ignored => 256,
+        Instruction::Ignored => NO_BYTE,
         Instruction::WriteEnable => 0x06,
         Instruction::WriteDisable => 0x04,
         Instruction::GetFeature => 0x0F,
@@ -85,8 +89,8 @@ pub fn byte_of(i: Instruction) -> u16
 }
 
 // The bytes of an instruction that acts as chip select rises.
-fn bytes_of(i: Instruction) -> u8
-    ensures { λ r. ⌜ r ≡ bytesOf i ⌝ }
+fn form_bytes(i: Instruction) -> u8
+    ensures { λ r. ⌜ r ≡ formBytes i ⌝ }
 {
     match i {
         Instruction::WriteEnable => 1,
@@ -105,28 +109,58 @@ fn bytes_of(i: Instruction) -> u8
     }
 }
 
+// Whether a busy array lets in the instruction of a first byte.
+pub fn let_in(b: u8) -> bool
+    ensures { λ r. ⌜ r ≡ open? b ⌝ }
+{
+    match b {
+        0x0F | 0x9F | 0xFF => true,
+        _ => false,
+    }
+}
+
 // The instruction that a first byte begins: a busy array lets in three of them.
 fn heard_as(busy: bool, b: u8) -> Instruction
     ensures { λ r. ⌜ r ≡ heardAs busy b ⌝ }
 {
-    if busy {
-        match b {
-            0x0F | 0x9F | 0xFF => instruction_of(b),
-            _ => Instruction::Ignored,
-        }
-    } else {
-        instruction_of(b)
+    if !busy {
+        return instruction_of(b);
     }
+    if let_in(b) {
+        return instruction_of(b);
+    }
+    Instruction::Ignored
 }
 
 // The next column, which stays at 4,096.
-fn next_column(c: Column) -> Column
+pub fn next_column(c: Column) -> Column
     ensures { λ r. ⌜ r ≡ next c ⌝ }
 {
     if c.0 < 4096 {
         Column(c.0 + 1)
     } else {
         Column(4096)
+    }
+}
+
+// The cache byte at a column, FFh past the page's end.
+pub fn byte_at(cache: &[u8], c: Column) -> u8
+    ensures { λ r. ⌜ r ≡ cacheByte (now (cache .entry)) c ⌝ }
+{
+    let at = part::wide_short(c.0);
+    if at < cache.len() {
+        return cache[at];
+    }
+    0xFF
+}
+
+// A byte stored at a column of the cache register; one past the page's end is dropped.
+pub fn store_at(cache: &mut [u8], c: Column, b: u8)
+    ensures { λ r. ⌜ now (cache .exit) ≡ set (now (cache .entry)) (c .0) b ⌝ }
+{
+    let at = part::wide_short(c.0);
+    if at < cache.len() {
+        cache[at] = b;
     }
 }
 
@@ -172,7 +206,7 @@ impl Transfer {
         ensures { λ r. ⌜ r ≡ full self ⌝ }
     {
         let i = self.instruction;
-        self.count == bytes_of(i)
+        self.count == form_bytes(i)
     }
 
     // The row address.
@@ -221,18 +255,15 @@ impl Transfer {
         ensures { λ r. ⌜ now (cache .exit) ≡ stored b self (now (cache .entry)) ⌝ }
     {
         let c = self.column;
-        let at = part::wide_short(c.0);
         if self.count < 3 {
             return;
         }
-        if at < cache.len() {
-            cache[at] = b;
-        }
+        store_at(cache, c, b);
     }
 
     // The first byte is the instruction.
-    fn begun(self, busy: bool, b: u8) -> Transfer
-        ensures { λ r. ⌜ r ≡ begun busy b self ⌝ }
+    fn instructed(self, busy: bool, b: u8) -> Transfer
+        ensures { λ r. ⌜ r ≡ instructed busy b self ⌝ }
     {
         Transfer {
             count: 1,
@@ -305,17 +336,25 @@ impl Bus {
         }
     }
 
+    // Whether a byte shifted now is heard.
+    pub fn heard(self) -> bool
+        ensures { λ r. ⌜ r ≡ heard self ⌝ }
+    {
+        let t = self.transfer;
+        t.selected
+    }
+
     // One byte shifted in.
     pub fn shifted_in(self, g: Geometry, busy: bool, b: u8) -> Bus
         ensures { λ r. ⌜ r ≡ shiftedIn g busy b self ⌝ }
     {
         let t = self.transfer;
-        if !t.selected {
+        if !self.heard() {
             return self;
         }
         if t.count == 0 {
             return Bus {
-                transfer: t.begun(busy, b),
+                transfer: t.instructed(busy, b),
                 ..self
             };
         }
@@ -330,7 +369,7 @@ impl Bus {
         ensures { λ r. ⌜ r ≡ bodyHeard self ⌝ }
     {
         let t = self.transfer;
-        if t.selected { t.count != 0 } else { false }
+        if self.heard() { t.count != 0 } else { false }
     }
 
     // What one byte shifted in does to the cache register.

@@ -3,7 +3,7 @@ use array::Job;
 use array::Work;
 use device::State;
 use libc::STDOUT_FILENO;
-use model::Answer;
+use walk::Answer;
 use transfer::Bus;
 
 // The bytes that differ from what they were filled with: how many, the first and the last place, and the sum, which starts
@@ -188,6 +188,6 @@ fn state(s: State) {
 pub(crate) fn answer(a: Answer) {
     let why = a.refusal;
     let s = a.state;
-    totals(model::number_of(why), a.records, a.used, a.written);
+    totals(refusals::number_of(why), a.records, a.used, a.written);
     state(s);
 }

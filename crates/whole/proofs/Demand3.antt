@@ -20,10 +20,10 @@ use Rattle.device.specs.Machine.{Machine}
 use Rattle.device.specs.Work.{stepping}
 use Rattle.device.specs.Step.{run}
 use Rattle.kept.specs.Kept.{SoundMachine, BytesIn}
-use Rattle.model.specs.Refusals.{numberOf, refusalOf, passed}
-use Rattle.model.specs.Runs.{shiftsIn, fitting, bytesOut, Outcome, did, ranOf, checkedAs, runOf, End}
-use Rattle.model.specs.declared.Refusal.{Refusal}
-use Rattle.model.specs.declared.Refusal.the-variants.{NoRoom}
+use Rattle.refusals.specs.Refusals.{numberOf, refusalOf, passed, checkedAs}
+use Rattle.model.specs.Runs.{shiftsIn, fitting, bytesOut, Outcome, did, ranOf, runOf, End}
+use Rattle.refusals.specs.declared.Refusal.{Refusal}
+use Rattle.refusals.specs.declared.Refusal.the-variants.{NoRoom}
 use Rattle.answers.specs.Table.{Fine}
 use Rattle.answers.proofs.Records.{bytes-read, bytes-fitting, fitting-first}
 use Rattle.answers.proofs.Checks.{fine}

@@ -12,7 +12,7 @@ use Rattle.device.specs.Work.{unitOf, units, stepping}
 use Rattle.device.specs.Instructions.{shifts, answer, programFate, eraseFate, programs, erases, resets, effect, acted, deselects}
 use Rattle.device.specs.Step.{off, powered, step, run}
 use Rattle.device.specs.Sound.{soundState}
-use Rattle.model.specs.Refusals.{checkOf}
+use Rattle.refusals.specs.Refusals.{checkOf}
 use Rattle.model.specs.Runs.{shiftsIn, fitting, bytesOut, ranOf, runOf}
 use Rattle.whole.specs.Whole.{ands, pageOf, done, whole}
 use Rattle.whole.specs.Orderly.{orderly}

@@ -24,7 +24,8 @@ use Rattle.device.specs.Step.{step, run}
 use Rattle.device.specs.declared.State.{State}
 use Rattle.kept.specs.Kept.{SoundMachine, BytesIn}
 use Rattle.kept.proofs.Steps.{step-keeps}
-use Rattle.model.specs.Runs.{puts, bytesOut}
+use Rattle.walk.specs.Turns.{puts}
+use Rattle.model.specs.Runs.{bytesOut}
 use Rattle.whole.specs.Whole.{whole}
 use Rattle.whole.specs.Orderly.{allowed, orderly, ofStatus, asks, asked}
 use Rattle.whole.proofs.Finish.{finishAs, finish}

@@ -12,7 +12,8 @@ use Rattle.buslog.specs.declared.Record.the-variants.{Select, Shift, Deselect, 
 use Rattle.device.specs.Machine.{Machine}
 use Rattle.device.specs.Work.{stepping}
 use Rattle.device.specs.Step.{step, run}
-use Rattle.model.specs.Runs.{puts, bytesOut, Outcome, End}
+use Rattle.walk.specs.Turns.{puts}
+use Rattle.model.specs.Runs.{bytesOut, Outcome, End}
 use Rattle.whole.specs.Whole.{whole}
 use Rattle.whole.specs.Orderly.{asks, asked}
 use Rattle.whole.specs.Demand.{begun, Given, machineOf, Ran, wholly, recordsDone, supposed, SameEnd, busOnly, withLog, However}

@@ -8,7 +8,7 @@ use lib.Dec.{T, eqb, eqb→eq}
 use borrow.Author.Tests.{ne-eqb, not-true, not-false}
 use Rattle.part.specs.declared.Geometry.{Geometry}
 use Rattle.part.proofs.Choice.{cond-keep, cond-two, T-true, true-T, and-l, and-r}
-use Rattle.transfer.specs.Transfer.{byteOf, instructionOf, open?, heardAs, is, bytesOf, withTransfer, ends, heard, bodyHeard, shiftedIn, cached}
+use Rattle.transfer.specs.Transfer.{byteOf, instructionOf, open?, heardAs, is, formBytes, withTransfer, ends, heard, bodyHeard, shiftedIn, cached}
 use Rattle.transfer.specs.declared.Bus.{Bus}
 use Rattle.transfer.specs.declared.Transfer.{Transfer}
 use Rattle.transfer.specs.declared.Instruction.{Instruction}
@@ -102,8 +102,8 @@ shifted-same g o p b x a =
 
 module _ (g : Geometry) (arr : Array) where
   -- no instruction acts, its bytes all there or not
-  acts-none : (i : Instruction) (n : ℕ) (m : Machine) → (1 ≤ n → T (eqb (byteOf i) 0x0F || eqb (byteOf i) 0x9F || eqb (byteOf i) 0xFF || eqb (byteOf i) 256)) → T (not (eqb (byteOf i) 0xFF && eqb n (bytesOf i)))
-      → cond (eqb n (bytesOf i)) (effect g arr i m) m ≡ m
+  acts-none : (i : Instruction) (n : ℕ) (m : Machine) → (1 ≤ n → T (eqb (byteOf i) 0x0F || eqb (byteOf i) 0x9F || eqb (byteOf i) 0xFF || eqb (byteOf i) 256)) → T (not (eqb (byteOf i) 0xFF && eqb n (formBytes i)))
+      → cond (eqb n (formBytes i)) (effect g arr i m) m ≡ m
   unfolding effect
   acts-none Ignored n m q h = cond-keep (λ (x : Machine). x ≡ m) (eqb n 0) (λ e. refl) (λ e. refl)
   acts-none GetFeature n m q h = cond-keep (λ (x : Machine). x ≡ m) (eqb n 0) (λ e. refl) (λ e. refl)

@@ -16,7 +16,7 @@ use Rattle.device.specs.Machine.{Machine, machine}
 use Rattle.device.specs.Work.{stepping}
 use Rattle.device.specs.Step.{powered}
 use Rattle.device.specs.declared.State.{State}
-use Rattle.model.specs.Refusals.{numberOf}
+use Rattle.refusals.specs.Refusals.{numberOf}
 use Rattle.model.specs.Runs.{Outcome, runOf, End, shown}
 use Rattle.whole.specs.Whole.{whole}
 use Rattle.whole.specs.Orderly.{idle, orderly, powerUpAt, atPowerUp, starts, asked}

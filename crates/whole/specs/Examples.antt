@@ -14,7 +14,7 @@ use Rattle.device.specs.Machine.{workIn, statusIn}
 use Rattle.device.specs.Step.{powerUp}
 use Rattle.device.specs.declared.State.{State}
 use Rattle.cases.specs.Cases.{Case, _·_⇒_, send, blank, told, idleWith, number, sameList, wrong}
-use Rattle.model.specs.Refusals.{numberOf}
+use Rattle.refusals.specs.Refusals.{numberOf}
 use Rattle.whole.specs.Orderly.{idle, orderly, powerUpAt, starts}
 use Rattle.whole.specs.Demand.{Given, given, machineOf, endOf, wholly, recordsDone}
 

@@ -1,4 +1,7 @@
-use Rattle.transfer.proofs.Open.{let-in, shut-out}
+-- Idle, every instruction is heard; busy, only what is let in.
+use mathlib.Core.Path.{sym, _∙_}
+use borrow.Author.Tests.{not-true, not-false}
+use borrow.Author.Needs.{needs}
 use borrow.Author.Needs.{needs}
 use Rattle.transfer.proofs.heard_as.Statement.{statement}
 use Rattle.transfer.proofs.heard_as.Tie as tie
@@ -6,19 +9,28 @@ use Rattle.transfer.proofs.heard_as.Tie as tie
 instruction-of-requires : tie.Need-instruction-of-requires
 instruction-of-requires c κs = search needs
 
+returns : tie.Need-returns
+returns c = rw (c .instruction-of .ensures, not-true (c .before .before .args .busy) (c .before .if1 .taken))
+
+let-in-requires : tie.Need-let-in-requires
+let-in-requires c κs = search needs
+
 instruction-of-requires-2 : tie.Need-instruction-of-requires-2
 instruction-of-requires-2 c κs = search needs
 
-returns : tie.Need-returns
-returns c = rw (c .instruction-of .ensures, c .before .before .if1 .taken, let-in (c .before .before .before .args .b) (c .before .match .keys1))
-
 returns-2 : tie.Need-returns-2
-returns-2 c = rw (c .before .if1 .taken, shut-out (c .before .before .args .b) (c .match .rest .1))
+returns-2 c = rw (c .instruction-of2 .ensures, not-false (c .before .before .before .before .args .busy) (c .before .before .before .if1 .left), sym (c .before .before .let-in .ensures) ∙ c .before .if2 .taken)
 
 returns-3 : tie.Need-returns-3
-returns-3 c = rw (c .before .if1 .left, c .instruction-of2 .ensures)
+returns-3 c = rw (not-false (c .before .before .before .args .busy) (c .before .before .if1 .left), sym (c .before .let-in .ensures) ∙ c .if2 .left)
 
 pub heard-as-spec : {M : Type 1} → statement M
 heard-as-spec =
     tie.close
-    (tie.spec instruction-of-requires instruction-of-requires-2 returns returns-2 returns-3)
+    (tie.spec
+    instruction-of-requires
+    returns
+    let-in-requires
+    instruction-of-requires-2
+    returns-2
+    returns-3)

@@ -1,0 +1,72 @@
+-- A run goes on behind a stream: each shift of it is a record of the log.
+use mathlib.Core.List.{List, _∷_, []}
+use mathlib.Core.Path.{_≡_, refl, sym, _∙_, subst, subst⁻¹}
+use Prim.Native.Nat.{ℕ, suc, _+_, _*_, _≤_, _<_}
+use native.Mathlib.Nat.{add-zero}
+use native.Mathlib.Numerals.{add-one}
+use native.Mathlib.Omega.{arith}
+use lib.ListN.{length, set, length-set}
+use lib.Seq.{drop-cons}
+use Rattle.part.specs.declared.Geometry.{Geometry}
+use Rattle.buslog.specs.Log.{Bytes}
+use Rattle.buslog.specs.Read.{front, nextOf}
+use Rattle.buslog.specs.Write.{over}
+use Rattle.buslog.specs.declared.Record.the-variants.{Shift}
+use Rattle.buslog.specs.declared.Next.the-variants.{Found}
+use Rattle.device.specs.Machine.{Machine, machine}
+use Rattle.device.specs.Work.{Array}
+use Rattle.device.specs.Instructions.{answer, shifts}
+use Rattle.device.specs.Step.{step}
+use Rattle.kept.specs.Kept.{Keeps}
+use Rattle.walk.specs.Turns.{Stands, puts, behind}
+use Rattle.walk.specs.declared.Walk.{Walk}
+use Rattle.walk.proofs.Turns.{over-one}
+use Rattle.stream.specs.Streams.{ShiftAt, byteIn, Shifted, none, more}
+use Rattle.model.proofs.Loop.{Going, going-next, out-long, byte-found}
+use Rattle.quick.specs.Along.{shiftsOn, Along}
+
+-- a shift at a place is the next record
+shift-next : (log : List ℕ) (place : ℕ) → ShiftAt log place → nextOf log place ≡ Found (Shift (byteIn log place)) (place + 2)
+unfolding nextOf front
+shift-next log place h =
+    rw (add-one place, drop-cons log place 0 (omega (arith, h .inside)), drop-cons log (suc place) 0 (omega (arith, h .inside)), h .kind)
+
+-- shifts stand within the log and their bytes within the output
+pub shifted-within : {g : Geometry} {log : List ℕ} {at written : ℕ} {m₀ : Machine} {out₀ : List ℕ} {k : ℕ} {m : Machine} {out : List ℕ} → at ≤ length log → written ≤ length out₀
+    → Shifted g log at written m₀ out₀ k m out → (at + 2 * k ≤ length log) × (written + k ≤ length out₀) × (length out ≡ length out₀)
+shifted-within i j none = (omega arith, omega arith, refl)
+shifted-within i j (more {k} {m} {out} d a z) = let h = shifted-within i j d in (omega (arith, a .inside), omega (arith, h .2, z), simp length-set (h .2))
+
+module _ (g : Geometry) (arr : Array) (log out₀ : List ℕ) (m₀ : Machine) (keeps : Keeps g arr) (bytes : Bytes log) (w : Walk) where
+  -- the same, of what is equal
+  going-at : {v v′ : Walk} {out out′ : List ℕ} {m : Machine} → v′ ≡ v → out′ ≡ out → Going g arr log out₀ m₀ v out m → Going g arr log out₀ m₀ v′ out′ m
+  going-at {v} {v′} {out} {out′} {m} e f h =
+      subst⁻¹ (λ (x : Walk). Going g arr log out₀ m₀ x out′ m) e (subst⁻¹ (λ (x : List ℕ). Going g arr log out₀ m₀ v x m) f h)
+
+  -- one shift more
+  going-more : (k : ℕ) (m : Machine) (out : List ℕ) → Going g arr log out₀ m₀ (shiftsOn w (m .state) k) out m → ShiftAt log (w .at + 2 * k) → w .written + k < length out
+      → let m₁ = shifts g (byteIn log (w .at + 2 * k)) m in
+      Going g arr log out₀ m₀ (shiftsOn w (m₁ .state) (k + 1)) (set out (w .written + k) (answer g (m .state) (m .store .cache))) m₁
+  unfolding step
+  going-more k m out h a z =
+      let v = shiftsOn w (m .state) k in
+      let e = Shift (byteIn log (w .at + 2 * k)) in
+      let p : nextOf log (w .at + 2 * k) ≡ Found (Shift (byteIn log (w .at + 2 * k))) (w .at + 2 * k + 2) = shift-next log (w .at + 2 * k) a in
+      let r : w .records + (k + 1) ≡ w .records + k + 1 = omega arith in
+      let q : w .at + 2 * (k + 1) ≡ w .at + 2 * k + 2 = omega arith in
+      let n : w .written + (k + 1) ≡ w .written + k + 1 = omega arith in
+      going-at (rw (r, q, n)) (over-one out (w .written + k) _ z)
+      (going-next g arr log out₀ m₀ v out m h keeps e (w .at + 2 * k + 2) p (byte-found log (w .at + 2 * k) bytes e (w .at + 2 * k + 2) p)
+      (omega (arith, out-long g arr log out₀ m₀ v out m h)))
+
+  going-shifts : {k : ℕ} {m₁ m : Machine} {out₁ out : List ℕ} → w .state ≡ m₁ .state → Going g arr log out₀ m₀ w out₁ m₁ → Shifted g log (w .at) (w .written) m₁ out₁ k m out
+      → Going g arr log out₀ m₀ (shiftsOn w (m .state) k) out m
+  going-shifts e h none = going-at (rw (add-zero (w .at), add-zero (w .records), add-zero (w .written), e)) refl h
+  going-shifts e h (more {k} {m} {out} d a z) = going-more k m out (going-shifts e h d) a z
+
+  -- behind a stream, and no further back
+  pub going-along : (cells cache counts out : List ℕ) (w₁ : Walk) (cache₁ out₁ : List ℕ) → Along g log w cache out w₁ cache₁ out₁
+      → Going g arr log out₀ m₀ w out (machine (w .state) cells cache counts)
+      → (w .at ≤ w₁ .at) × Going g arr log out₀ m₀ w₁ out₁ (machine (w₁ .state) cells cache₁ counts)
+  going-along cells cache counts out w₁ cache₁ out₁ a h =
+      (rw (a .walk) (omega arith), going-at (a .walk) refl (going-shifts refl h (a .done cells counts)))

@@ -1,0 +1,151 @@
+-- A stream of shifts: what one shift does, and what the loops over a stream hold.
+use mathlib.Core.Bool.{Bool, true, false, _&&_, _||_}
+use mathlib.Core.List.{List}
+use mathlib.Core.Path.{_≡_, refl, sym, _∙_, subst}
+use Prim.Native.Nat.{ℕ, _+_, _-_, _*_, _/_, _≤_, _<_, min}
+use native.Mathlib.Omega.{arith}
+use lib.Dec.{T, eqb}
+use lib.ListN.{length, getD, set, length-set}
+use borrow.Author.Tests.{eqb-true}
+use Rattle.part.specs.declared.Column.{Column}
+use Rattle.part.specs.declared.Geometry.{Geometry}
+use Rattle.part.proofs.Choice.{T-true, true-T, and-l, and-r}
+use Rattle.transfer.specs.Transfer.{byteOf, is, next, heard, shiftedIn, cacheByte, cached}
+use Rattle.transfer.specs.declared.Bus.{Bus}
+use Rattle.device.specs.Machine.{Machine, machine}
+use Rattle.device.specs.Instructions.{answer, shifts}
+use Rattle.device.specs.declared.State.{State}
+use Rattle.stream.specs.Streams.{Past, loading, streams, atColumn, ShiftAt, byteIn, Shifted, none, more, Follows, noShift, Streamed}
+use Rattle.stream.specs.declared.Stream.{Stream}
+
+-- ---- a bus in a stream
+
+module _ (x : Bus) (h : streams x ≡ true) where
+  -- a byte is heard and the fifth has come
+  abbrev reaches : Bool
+  reaches = heard x && eqb (x .transfer .count) 5
+
+  -- the test tells both
+  pub streams-past : Past x
+  streams-past =
+      let r : T reaches = and-l reaches (is (x .transfer) 0x03 || loading (x .transfer)) (true-T _ h) in
+      record { listens = T-true _ (and-l (heard x) (eqb (x .transfer .count) 5) r); counted = eqb-true _ _ (T-true _ (and-r (heard x) (eqb (x .transfer .count) 5) r)) }
+
+  -- what does not read loads
+  pub streams-loads : is (x .transfer) 0x03 ≡ false → loading (x .transfer) ≡ true
+  streams-loads q =
+      let e : (is (x .transfer) 0x03 || loading (x .transfer)) ≡ true = T-true _ (and-r reaches (is (x .transfer) 0x03 || loading (x .transfer)) (true-T _ h)) in
+      rw q at e
+
+-- ---- one shift in a stream
+
+-- one byte on, from a column to the next, and what it puts out
+abbrev pub Moves : State → Column → Column → List ℕ → List ℕ → ℕ → ℕ → Type 0
+Moves s c c′ cache cache′ b x =
+    (g : Geometry)
+    → ((cells counts : List ℕ) → shifts g b (machine (atColumn c s) cells cache counts) ≡ machine (atColumn c′ s) cells cache′ counts)
+    × (answer g (atColumn c s) cache ≡ x)
+
+-- one of two tests holds
+either : {P : Type 0} (a b : Bool) → (a || b) ≡ true → (a ≡ true → P) → (b ≡ true → P) → P
+either true b q f h = f refl
+either false b q f h = h q
+
+module _ (s : State) (p : Past (s .bus)) (c : Column) (cache : List ℕ) (b : ℕ) where
+  -- 03h reads the cache register
+  pub read-moves : is (s .bus .transfer) 0x03 ≡ true → Moves s c (next c) cache cache b (cacheByte cache c)
+  unfolding shifts shiftedIn cached answer
+  read-moves q g =
+      let e : byteOf (s .bus .transfer .instruction) ≡ 0x03 = eqb-true _ _ q in
+      ((λ cells counts. rw (p .listens, p .counted, e)), rw (p .listens, p .counted, e))
+
+  -- 02h
+  load-2 : is (s .bus .transfer) 0x02 ≡ true → Moves s c (next c) cache (set cache (c .0) b) b 0xFF
+  unfolding shifts shiftedIn cached answer
+  load-2 q g =
+      let e : byteOf (s .bus .transfer .instruction) ≡ 0x02 = eqb-true _ _ q in
+      ((λ cells counts. rw (p .listens, p .counted, e)), rw (p .listens, p .counted, e))
+
+  -- 84h
+  load-84 : is (s .bus .transfer) 0x84 ≡ true → Moves s c (next c) cache (set cache (c .0) b) b 0xFF
+  unfolding shifts shiftedIn cached answer
+  load-84 q g =
+      let e : byteOf (s .bus .transfer .instruction) ≡ 0x84 = eqb-true _ _ q in
+      ((λ cells counts. rw (p .listens, p .counted, e)), rw (p .listens, p .counted, e))
+
+  -- 02h and 84h store at the column
+  pub load-moves : loading (s .bus .transfer) ≡ true → Moves s c (next c) cache (set cache (c .0) b) b 0xFF
+  load-moves q = either (is (s .bus .transfer) 0x02) (is (s .bus .transfer) 0x84) q load-2 load-84
+
+-- ---- the loops
+
+-- as many shifts as the log and the output have room for
+pub record Roomy (log : List ℕ) (at written : ℕ) (out : List ℕ) (n : ℕ) : Type 0 where
+  pub inside : at ≤ length log
+  pub before : written ≤ length out
+  pub most : n ≡ min ((length log - at) / 2) (length out - written)
+
+-- and no more
+pub none-left : (log : List ℕ) (at written : ℕ) (out : List ℕ) (n i : ℕ) → Roomy log at written out n → n ≤ i → Follows log at written out i → ⊥
+none-left log at written out n i r h f = omega (arith, r .inside, r .before, r .most, f .0 .inside, f .1)
+
+-- what stands next is no shift
+pub no-shift : (log : List ℕ) (at written : ℕ) (out : List ℕ) (i x : ℕ) → x ≡ getD log (at + 2 * i) 0 → (x ≡ 2 → ⊥) → Follows log at written out i → ⊥
+no-shift log at written out i x e h f = h (e ∙ f .0 .kind)
+
+-- so many shifts done, the column and the buffers so far
+pub record Streaming (s : State) (log : List ℕ) (at written n : ℕ) (cache₀ out₀ cache out : List ℕ) (c : Column) (i : ℕ) : Type 0 where
+  pub roomy : Roomy log at written out₀ n
+  pub below : i ≤ n
+  pub cache-long : length cache ≡ length cache₀
+  pub out-keeps : length out ≡ length out₀
+  pub done : (g : Geometry) (cells counts : List ℕ) → Shifted g log at written (machine s cells cache₀ counts) out₀ i (machine (atColumn c s) cells cache counts) out
+
+-- before the first shift
+pub before-first : (s : State) (log : List ℕ) (at written n : ℕ) (cache out : List ℕ) → Roomy log at written out n
+    → Streaming s log at written n cache out cache out (s .bus .transfer .column) 0
+before-first s log at written n cache out r = record { roomy = r; below = omega arith; cache-long = refl; out-keeps = refl; done = λ g cells counts. none }
+
+module _ {s : State} {log : List ℕ} {at written n : ℕ} {cache₀ out₀ cache out : List ℕ} {c : Column} {i : ℕ} where
+  -- one shift more
+  pub moved : {cache′ : List ℕ} {c′ : Column} {x : ℕ} → Streaming s log at written n cache₀ out₀ cache out c i → i < n → getD log (at + 2 * i) 0 ≡ 2
+      → length cache′ ≡ length cache → Moves s c c′ cache cache′ (byteIn log (at + 2 * i)) x
+      → Streaming s log at written n cache₀ out₀ cache′ (set out (written + i) x) c′ (i + 1)
+  moved {cache′} {c′} {x} h l k e m =
+      record {
+        roomy = h .roomy;
+        below = omega arith;
+        cache-long = e ∙ h .cache-long;
+        out-keeps = simp length-set (h .out-keeps);
+        done = λ g cells counts.
+            let a : ShiftAt log (at + 2 * i) = record { inside = omega (arith, h .roomy .inside, h .roomy .most); kind = k } in
+            let z : written + i < length out = omega (arith, h .roomy .before, h .roomy .most, h .out-keeps) in
+            subst (λ (y : ℕ). Shifted g log at written (machine s cells cache₀ counts) out₀ (i + 1) (machine (atColumn c′ s) cells cache′ counts) (set out (written + i) y)) (m g .1)
+            (subst (λ (y : Machine). Shifted g log at written (machine s cells cache₀ counts) out₀ (i + 1) y (set out (written + i) (answer g (atColumn c s) cache))) (m g .0 cells counts)
+            (more (h .done g cells counts) a z));
+      }
+
+-- ---- all of them
+
+module _ (g : Geometry) (s : State) (log : List ℕ) (at written : ℕ) (cache out : List ℕ) where
+  -- none where none can follow
+  no-shifts : (streams (s .bus) ≡ true → Follows log at written out 0 → ⊥) → Streamed g s log at written cache out (noShift s) cache out
+  no-shifts a = record { done = λ cells counts. none; all = a; still = λ e. refl }
+
+  not-both : streams (s .bus) ≡ false → streams (s .bus) ≡ true → ⊥
+  not-both e f = subst T (sym f ∙ e) tt
+
+  pub still-none : streams (s .bus) ≡ false → Streamed g s log at written cache out (noShift s) cache out
+  still-none e = no-shifts (λ f h. not-both e f)
+
+  pub outside-none : length log < at → Streamed g s log at written cache out (noShift s) cache out
+  outside-none l = no-shifts (λ f h. omega (arith, h .0 .inside))
+
+  pub full-none : length out < written → Streamed g s log at written cache out (noShift s) cache out
+  full-none l = no-shifts (λ f h. omega (arith, h .1))
+
+  -- those of a read or of a load
+  pub some-shifts : (r : Stream) (cache₁ out₁ : List ℕ) → streams (s .bus) ≡ true
+      → ((cells counts : List ℕ) → Shifted g log at written (machine s cells cache counts) out (r .count) (machine (r .state) cells cache₁ counts) out₁)
+      × (Follows log at written out (r .count) → ⊥) → Streamed g s log at written cache out r cache₁ out₁
+  some-shifts r cache₁ out₁ e h = record { done = h .0; all = λ f. h .1; still = λ f. absurd (not-both f e) }

@@ -1,0 +1,170 @@
+// A stream of shifts: once the fifth byte of a transfer has come, only the next column moves on, and data is read or loaded. Document 01, "Instructions".
+ghost use mathlib.Core.Bool.{true};
+ghost use mathlib.Core.List.{List};
+ghost use mathlib.Core.Path.{_≡_};
+ghost use Prim.Native.Nat.{ℕ, _/_, _≤_, min};
+ghost use lib.ListN.{length};
+ghost use Rattle.transfer.specs.Transfer.{is};
+ghost use Rattle.device.specs.Machine.{machine};
+ghost use Rattle.stream.specs.Streams.{Past, loading, streams, atColumn, Shifted, Follows, noShift, Streamed};
+use device::State;
+use part::Column;
+use part::Geometry;
+use transfer::Bus;
+use transfer::Transfer;
+
+// What a stream of shifts came to: the state, and how many there were.
+pub struct Stream {
+    pub state: State,
+    pub count: usize,
+}
+
+// Whether a bus is in a stream: the fifth byte of its transfer has come, and it reads or loads the cache register.
+fn streams(x: Bus) -> bool
+    ensures { λ r. ⌜ r ≡ streams x ⌝ }
+{
+    if !x.heard() {
+        return false;
+    }
+    let t = x.transfer;
+    if t.count != 5 {
+        return false;
+    }
+    if t.is(0x03) {
+        return true;
+    }
+    if t.is(0x02) {
+        return true;
+    }
+    t.is(0x84)
+}
+
+// The most shifts that the bytes left of the log and the room left for output allow.
+fn most(bytes: usize, room: usize) -> usize
+    ensures { λ r. ⌜ r ≡ min (bytes / 2) room ⌝ }
+{
+    let n = bytes / 2;
+    if n < room {
+        return n;
+    }
+    room
+}
+
+// The state with another next column.
+fn at_column(c: Column, s: State) -> State
+    ensures { λ r. ⌜ r ≡ atColumn c s ⌝ }
+{
+    let x = s.bus;
+    let t = x.transfer;
+    State {
+        bus: Bus {
+            transfer: Transfer { column: c, ..t },
+            ..x
+        },
+        ..s
+    }
+}
+
+// The shifts of a cache read, from a place on.
+fn reads(
+    g: Geometry,
+    s: State,
+    log: &[u8],
+    at: usize,
+    cache: &[u8],
+    out: &mut [u8],
+    written: usize,
+) -> Stream
+    requires { ⌜ (Past (s .bus)) × (is (s .bus .transfer) 0x03 ≡ true) × (at ≤ length (now log)) × (written ≤ length (now out)) ⌝ }
+    ensures { λ r. ⌜ (((cells counts : List ℕ) → Shifted g (now (log .entry)) at written (machine s cells (now (cache .entry)) counts) (now (out .entry)) (r .count) (machine (r .state) cells (now (cache .entry)) counts) (now (out .exit)))) × (Follows (now (log .entry)) at written (now (out .entry)) (r .count) → ⊥) ⌝ }
+{
+    let n = most(log.len() - at, out.len() - written);
+    let mut c = s.bus.transfer.column;
+    let mut i = 0;
+    while i < n {
+        if log[at + 2 * i] != 2 {
+            return Stream {
+                state: at_column(c, s),
+                count: i,
+            };
+        }
+        out[written + i] = transfer::byte_at(cache, c);
+        c = transfer::next_column(c);
+        i += 1;
+    }
+    Stream {
+        state: at_column(c, s),
+        count: i,
+    }
+}
+
+// The shifts of a load, from a place on.
+fn loads(
+    g: Geometry,
+    s: State,
+    log: &[u8],
+    at: usize,
+    cache: &mut [u8],
+    out: &mut [u8],
+    written: usize,
+) -> Stream
+    requires { ⌜ (Past (s .bus)) × (loading (s .bus .transfer) ≡ true) × (at ≤ length (now log)) × (written ≤ length (now out)) ⌝ }
+    ensures { λ r. ⌜ (((cells counts : List ℕ) → Shifted g (now (log .entry)) at written (machine s cells (now (cache .entry)) counts) (now (out .entry)) (r .count) (machine (r .state) cells (now (cache .exit)) counts) (now (out .exit)))) × (Follows (now (log .entry)) at written (now (out .entry)) (r .count) → ⊥) ⌝ }
+{
+    let n = most(log.len() - at, out.len() - written);
+    let mut c = s.bus.transfer.column;
+    let mut i = 0;
+    while i < n {
+        let place = at + 2 * i;
+        if log[place] != 2 {
+            return Stream {
+                state: at_column(c, s),
+                count: i,
+            };
+        }
+        transfer::store_at(cache, c, log[place + 1]);
+        out[written + i] = 0xFF;
+        c = transfer::next_column(c);
+        i += 1;
+    }
+    Stream {
+        state: at_column(c, s),
+        count: i,
+    }
+}
+
+// No shift.
+fn none(s: State) -> Stream
+    ensures { λ r. ⌜ r ≡ noShift s ⌝ }
+{
+    Stream { state: s, count: 0 }
+}
+
+// The shifts from a place of the log on, their output from a place of the output on: all that follow one another where the bus is in a stream, and else none.
+pub fn shifts(
+    g: Geometry,
+    s: State,
+    log: &[u8],
+    at: usize,
+    cache: &mut [u8],
+    out: &mut [u8],
+    written: usize,
+) -> Stream
+    ensures { λ r. ⌜ Streamed g s (now (log .entry)) at written (now (cache .entry)) (now (out .entry)) r (now (cache .exit)) (now (out .exit)) ⌝ }
+{
+    let x = s.bus;
+    if !streams(x) {
+        return none(s);
+    }
+    if log.len() < at {
+        return none(s);
+    }
+    if out.len() < written {
+        return none(s);
+    }
+    let t = x.transfer;
+    if t.is(0x03) {
+        return reads(g, s, log, at, &*cache, out, written);
+    }
+    loads(g, s, log, at, cache, out, written)
+}
