@@ -70,10 +70,10 @@ impl Device<'_> {
         if !machine.selected {
             return BLANK;
         }
-        let busy = machine.is_busy();
         let count = machine.transfer.count;
         machine.transfer.count = COUNT_LIMIT.min(count + 1);
         if count == 0 {
+            let busy = machine.is_busy();
             machine.transfer.instruction = Instruction::of_byte(byte)
                 .filter(|instruction| !busy || instruction.heard_while_busy());
             return BLANK;
@@ -83,6 +83,7 @@ impl Device<'_> {
         }
         match machine.transfer.instruction {
             Some(Instruction::GetFeature) if count >= 2 => {
+                let busy = machine.is_busy();
                 machine.registers.read(machine.transfer.bytes[0], busy)
             }
             Some(Instruction::ReadId) if count >= 2 => {
