@@ -1,8 +1,10 @@
 //! The project's vectors: lines that each say a case, and lines that say what came of it.
 //!
 //! The program in `crates/vectors` reads the same lines and prints what the proved model does with
-//! them. Its expected lines are this package's work and not the product's: the program `vectors`
-//! prints them by [the paper's model](crate::paper), and the tests have the library print the same.
+//! them. Its expected lines are never copied from the product. Those of document 01 were first
+//! worked out by another independent model; [the paper's model](crate::paper) prints the same, and
+//! what is added or changed is printed by it, with the program `vectors`. The tests hold the library
+//! to them too.
 //!
 //! A line has a name, the numbers of a setup and a script, with a bar between two; one that begins
 //! with # is a comment. The file says in its head what the numbers and the script are.
