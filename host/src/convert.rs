@@ -15,6 +15,18 @@ impl From<Geometry> for paper::Part {
     }
 }
 
+impl From<paper::Part> for Geometry {
+    fn from(part: paper::Part) -> Self {
+        Geometry {
+            main: part.data,
+            spare: part.spare,
+            pages: part.pages,
+            blocks: part.blocks,
+            identity: part.identity,
+        }
+    }
+}
+
 impl From<State> for paper::State {
     fn from(state: State) -> Self {
         paper::State {

@@ -7,7 +7,7 @@
 //! * [`lent`] has the same calls over borrowed memory, [`raw`] the C interface's own types.
 //! * [`Log`], [`Record`] and [`Records`] write and read bus logs.
 //! * [`paper`] is an independent model of the same part, against which the library is tested and
-//!   measured.
+//!   measured; [`case`] and [`vectors`] are what both are run on.
 //!
 //! ```
 //! use sleetanvil::{Device, Geometry};
@@ -22,6 +22,7 @@
 #![deny(unsafe_code)]
 #![warn(missing_docs)]
 
+pub mod case;
 mod convert;
 mod device;
 #[allow(unsafe_code)]
@@ -33,6 +34,7 @@ mod log;
 pub mod paper;
 mod refusal;
 mod state;
+pub mod vectors;
 
 pub use device::Device;
 pub use geometry::Geometry;

@@ -51,7 +51,7 @@ impl Refusal {
         self as u8
     }
 
-    /// The refusal of a number; none for 0 and for numbers above 9.
+    /// The refusal of a number; none for 0 and for a number that no refusal has.
     pub fn from_number(number: u8) -> Option<Refusal> {
         Refusal::ALL
             .into_iter()
@@ -62,10 +62,14 @@ impl Refusal {
     ///
     /// # Panics
     ///
-    /// If the number is above 9, which the library does not answer.
+    /// If the number is neither 0 nor that of a refusal, which the library does not answer.
     pub(crate) fn of_answer(number: u8) -> Option<Refusal> {
-        assert!(number <= 9, "the library answered refusal {number}");
-        Refusal::from_number(number)
+        let refusal = Refusal::from_number(number);
+        assert!(
+            number == 0 || refusal.is_some(),
+            "the library answered refusal {number}"
+        );
+        refusal
     }
 }
 

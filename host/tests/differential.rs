@@ -6,13 +6,11 @@
 
 mod support;
 
-use sleetanvil::lent::{self, Memory};
+use sleetanvil::case::{hex, model, model_on, untouched_output, Buffers, Case, Outcome};
+use sleetanvil::lent;
 use sleetanvil::raw::{self, RawRecord};
 use sleetanvil::{paper, Answer, Geometry, Refusal, State};
-use support::case::{
-    answer_difference, bytes_difference, difference, hex, library, library_run, model, model_run,
-    untouched_output, Buffers, Case, Outcome,
-};
+use support::compare::{answer_difference, bytes_difference, difference, library, library_on};
 use support::generate::Generator;
 use support::hunt::{cases, hunt, report, seed};
 use support::rng::Rng;
@@ -84,25 +82,16 @@ fn logs_are_judged_alike() {
 
 fn judged_by_library(case: &Case) -> (Outcome, bool) {
     let mut buffers = case.buffers();
-    let mut memory = Memory {
-        cells: &mut buffers.cells,
-        cache: &mut buffers.cache,
-        counts: &mut buffers.counts,
-    };
-    let (geometry, out) = (&case.geometry, &mut buffers.out);
-    let (answer, orderly) = lent::judge(geometry, case.state, &case.log, &mut memory, out);
+    let (mut memory, out) = buffers.lent();
+    let (answer, orderly) = lent::judge(&case.geometry, case.state, &case.log, &mut memory, out);
     (Outcome { answer, buffers }, orderly)
 }
 
 fn judged_by_model(case: &Case) -> (Outcome, bool) {
     let mut buffers = case.buffers();
-    let memory = paper::Memory {
-        cells: &mut buffers.cells,
-        cache: &mut buffers.cache,
-        counts: &mut buffers.counts,
-    };
-    let (part, out) = (case.geometry.into(), &mut buffers.out);
-    let (answer, orderly) = paper::judge(&part, case.state.into(), &case.log, memory, out);
+    let (memory, out) = buffers.lent_to_paper();
+    let (part, state) = (case.geometry.into(), case.state.into());
+    let (answer, orderly) = paper::judge(&part, state, &case.log, memory, out);
     let answer = answer.into();
     (Outcome { answer, buffers }, orderly)
 }
@@ -217,52 +206,45 @@ fn named_parts_and_power_up_agree() {
 fn the_real_part_agrees() {
     const LOGS: u64 = 400;
     let seed = seed() ^ 6;
-    let geometry = Geometry::fm25s005bi3();
-    let mut left = real_part(&geometry);
+    let mut case = Case::power_up(Geometry::fm25s005bi3(), &[]);
+    let mut left = real_part(&case);
     let mut right = left.clone();
-    let mut state = State::power_up();
     for number in 0..LOGS {
         let mut generator = Generator::new(seed, number);
         if generator.rng.percent(30) {
-            state = generator.sound_state(&geometry);
+            case.state = generator.sound_state(&case.geometry);
         }
-        let log = generator.log(&geometry);
-        left.out = untouched_output(log.len() / 2);
+        case.log = generator.log(&case.geometry);
+        left.out = untouched_output(case.log.len() / 2);
         right.out = left.out.clone();
-        let answers = [
-            library_run(&geometry, state, &log, &mut left),
-            model_run(&geometry, state, &log, &mut right),
-        ];
-        let difference = answer_difference(&answers[0], &answers[1])
-            .or_else(|| bytes_difference("out", &left.out, &right.out))
-            .or_else(|| bytes_difference("cache", &left.cache, &right.cache))
-            .or_else(|| bytes_difference("counts", &left.counts, &right.counts))
-            .or_else(|| {
-                let whole = number % 4 == 0 || number == LOGS - 1;
-                whole.then(|| bytes_difference("cells", &left.cells, &right.cells))?
-            });
+        let answers = [library_on(&case, &mut left), model_on(&case, &mut right)];
+        // The cells take long to compare.
+        let whole = number % 4 == 0 || number == LOGS - 1;
+        let difference = answer_difference(&answers[0], &answers[1]).or_else(|| {
+            let buffers = left.named().into_iter().zip(right.named());
+            buffers
+                .filter(|((name, _), _)| whole || *name != "cells")
+                .find_map(|((name, left), (_, right))| bytes_difference(name, left, right))
+        });
         if let Some(difference) = difference {
             panic!(
-                "seed {seed}, log {number}: {difference}\n{state:?}\n{}",
-                hex(&log)
+                "seed {seed}, log {number}: {difference}\n{:?}\n{}",
+                case.state,
+                hex(&case.log)
             );
         }
-        state = answers[0].state;
+        case.state = answers[0].state;
     }
 }
 
-fn real_part(geometry: &Geometry) -> Buffers {
+/// A case's memory, the cells partly written.
+fn real_part(case: &Case) -> Buffers {
     let mut rng = Rng::new(7, 7);
-    let mut cells = vec![0xFF; geometry.cells_len()];
-    for cells in cells.chunks_exact_mut(8).step_by(3) {
+    let mut buffers = case.buffers();
+    for cells in buffers.cells.chunks_exact_mut(8).step_by(3) {
         cells.copy_from_slice(&rng.next().to_le_bytes());
     }
-    Buffers {
-        cells,
-        cache: vec![0xFF; geometry.cache_len()],
-        counts: vec![0; geometry.counts_len()],
-        out: Vec::new(),
-    }
+    buffers
 }
 
 /// One call of a single-event function.
@@ -301,14 +283,11 @@ impl Event {
     }
 
     fn call(self, geometry: &Geometry, state: State, buffers: &mut Buffers) -> Answer {
-        let memory = &mut Memory {
-            cells: &mut buffers.cells,
-            cache: &mut buffers.cache,
-            counts: &mut buffers.counts,
-        };
+        let (mut memory, out) = buffers.lent();
+        let memory = &mut memory;
         match self {
             Event::Select => lent::select(geometry, state, memory),
-            Event::Shift(byte) => lent::shift(geometry, state, byte, memory, &mut buffers.out),
+            Event::Shift(byte) => lent::shift(geometry, state, byte, memory, out),
             Event::Deselect => lent::deselect(geometry, state, memory),
             Event::Work(units) => lent::work(geometry, state, units, memory),
             Event::Level(level) => lent::level(geometry, state, level, memory),
@@ -332,15 +311,12 @@ fn any_event(rng: &mut Rng) -> Event {
 /// The library, one call a record.
 fn event_by_event(case: &Case) -> Outcome {
     let mut buffers = case.buffers();
-    let mut answer = Answer {
-        state: case.state,
-        records: 0,
-        used: 0,
-        written: 0,
-        refusal: None,
+    let nothing = Case {
+        log: Vec::new(),
+        ..case.clone()
     };
-    let out = std::mem::take(&mut buffers.out);
-    let mut done = out.clone();
+    let mut answer = library_on(&nothing, &mut buffers);
+    let mut done = std::mem::take(&mut buffers.out);
     while answer.refusal.is_none() {
         let record = match paper::next(&case.log, answer.used) {
             Ok(Some((record, _))) => record,
@@ -354,11 +330,10 @@ fn event_by_event(case: &Case) -> Outcome {
         let one = Event::of(record).call(&case.geometry, answer.state, &mut buffers);
         done.append(&mut buffers.out);
         answer = Answer {
-            state: one.state,
             records: answer.records + one.records,
             used: answer.used + one.used,
             written: answer.written + one.written,
-            refusal: one.refusal,
+            ..one
         };
     }
     buffers.out = done;
@@ -372,9 +347,9 @@ fn raw_record(kind: u8, byte: u8, units: u16) -> RawRecord {
 /// That these tests can fail: models that are nearly right are found out.
 mod impostors {
     use super::*;
-    use support::case::Subject;
+    use sleetanvil::case::Subject;
 
-    const IMPOSTORS: [(&str, Subject); 13] = [
+    const IMPOSTORS: &[(&str, Subject)] = &[
         ("refuses all logs", refuses_all),
         ("shifts out FFh always", shifts_out_ff),
         ("leaves cells untouched", leaves_cells),
@@ -393,7 +368,7 @@ mod impostors {
     #[test]
     fn each_is_found() {
         for (name, impostor) in IMPOSTORS {
-            let found = hunt(impostor, model, 1, 4000);
+            let found = hunt(*impostor, model, 1, 4000);
             assert!(found.is_some(), "not found: a model that {name}");
         }
     }
@@ -548,7 +523,7 @@ mod completeness {
     #[test]
     fn each_field_is_compared() {
         type Change = fn(&mut Outcome);
-        const CHANGES: [(&str, Change); 23] = [
+        const CHANGES: &[(&str, Change)] = &[
             ("refusal", |o| o.answer.refusal = Some(Refusal::BadKind)),
             ("records", |o| o.answer.records += 1),
             ("used", |o| o.answer.used += 1),
@@ -573,9 +548,10 @@ mod completeness {
             ("counts[31]", |o| o.buffers.counts[31] ^= 1),
             ("cells[639]", |o| o.buffers.cells[639] ^= 1),
         ];
-        let mut case = Case::power_up(Geometry::bench(), &[1, 2, 0x0F, 3]);
-        case.room = 6;
-        let right = model(&case);
+        let right = model(&Case {
+            room: 6,
+            ..Case::bench(&[1, 2, 0x0F, 3])
+        });
         assert_eq!(difference(&right, &right), None);
         for (name, change) in CHANGES {
             let mut left = right.clone();

@@ -5,8 +5,9 @@
 
 mod support;
 
+use sleetanvil::case::{model, Case, Fill, Outcome, Subject};
 use sleetanvil::{Geometry, Refusal, State};
-use support::case::{library, model, Case, Fill, Outcome, Subject};
+use support::compare::library;
 
 const BOTH: [(&str, Subject); 2] = [("paper", model), ("library", library)];
 
@@ -26,7 +27,7 @@ fn idle(status: u8) -> State {
 fn bench(state: State, log: &[u8]) -> Case {
     Case {
         state,
-        ..Case::power_up(Geometry::bench(), log)
+        ..Case::bench(log)
     }
 }
 
@@ -67,8 +68,7 @@ fn the_replay() {
     for (&status, &end) in STATUS.iter().zip(&ENDS) {
         status_after(State::power_up(), &LOG[..end], status);
     }
-    let case = Case::power_up(Geometry::bench(), &LOG);
-    on_both(&case, |outcome| {
+    on_both(&Case::bench(&LOG), |outcome| {
         let answer = outcome.answer;
         assert_eq!((answer.refusal, answer.records), (None, 8));
         assert_eq!((answer.used, answer.written), (16, 4));
@@ -107,7 +107,7 @@ fn case_1_the_top_of_512_blocks() {
         spare: 0,
         pages: 1,
         blocks: 512,
-        identity: [0, 0],
+        ..Geometry::bench()
     };
     let highest: Vec<u16> = (504..512).collect();
     protected(geometry, 1 << 3, &highest);
@@ -176,12 +176,7 @@ fn case_7_the_fifth_program() {
 
 #[test]
 fn case_8_rows_31_and_32() {
-    let cells = Fill {
-        len: 640,
-        first: 3,
-        step: 7,
-        below: 256,
-    };
+    let cells = Fill::counting(640, 3, 7);
     let read = |row| Case {
         cells,
         cache: Fill::constant(20, 0x00),

@@ -1,16 +1,13 @@
-//! The project's vectors: both models print the lines that another independent model printed.
+//! The project's vectors: both models print the expected lines.
 //!
 //! The files stand beside the package, in `../crates/vectors`, or in the folder that the
 //! environment variable `SLEETANVIL_VECTORS` names.
 
 mod support;
 
-use std::path::PathBuf;
-use std::{env, fs};
-
-use sleetanvil::{Geometry, Job, Refusal, State};
-use support::case::{hex, library, model, untouched_output, Case, Fill, Outcome, Subject};
-use support::generate::CODES;
+use sleetanvil::case::{model, Subject};
+use sleetanvil::vectors::{self, Vector};
+use support::compare::library;
 
 #[test]
 fn paper_prints_the_vectors() {
@@ -23,194 +20,61 @@ fn library_prints_the_vectors() {
 }
 
 fn compare(subject: Subject) {
-    let folder = env::var_os("SLEETANVIL_VECTORS").map_or_else(
-        || PathBuf::from(env!("CARGO_MANIFEST_DIR")).join("../crates/vectors"),
-        PathBuf::from,
-    );
-    let read = |name| {
-        let file = folder.join(name);
-        fs::read_to_string(&file).unwrap_or_else(|error| panic!("{}: {error}", file.display()))
-    };
-    let (input, expected) = (read("stdin"), read("stdout"));
-    let vectors: Vec<_> = input
-        .lines()
-        .filter(|line| !line.starts_with('#') && !line.is_empty())
-        .collect();
-    assert_eq!(vectors.len(), expected.lines().count());
-    assert!(!vectors.is_empty());
-    for (vector, expected) in vectors.iter().zip(expected.lines()) {
-        let (name, case) = parse(vector);
-        assert_eq!(line(name, &case, &subject(&case)), expected);
+    let file = |name| vectors::file(name).unwrap_or_else(|error| panic!("{error}"));
+    let (input, expected) = (file("stdin"), file("stdout"));
+    let printed = vectors::print(&input, subject).unwrap_or_else(|error| panic!("{error}"));
+    for (printed, expected) in printed.lines().zip(expected.lines()) {
+        assert_eq!(printed, expected);
     }
+    assert_eq!(printed.lines().count(), expected.lines().count());
+    assert!(printed == expected && !printed.is_empty());
 }
 
-/// The name and the case of a vector.
-fn parse(vector: &str) -> (&str, Case) {
-    let [name, numbers, script] = vector.split('|').collect::<Vec<_>>()[..] else {
-        panic!("not a vector: {vector}");
-    };
-    let mut numbers = numbers
-        .split_whitespace()
-        .map(|number| usize::from_str_radix(number, 16).expect("a hex number"));
-    let mut next = || numbers.next().expect("enough numbers");
-    let geometry = Geometry {
-        main: next() as u32,
-        spare: next() as u32,
-        pages: next() as u32,
-        blocks: next() as u32,
-        identity: [0x5A, 0x01],
-    };
-    let state = State {
-        a0: next() as u8,
-        b0: next() as u8,
-        c0: next() as u8,
-        d0: next() as u8,
-        wp: next() as u8,
-        selected: next() as u8,
-        count: next() as u8,
-        instruction: instruction(next() as u8),
-        first: next() as u8,
-        second: next() as u8,
-        third: next() as u8,
-        column: next() as u16,
-        job: job(next()),
-        row: next() as u16,
-        units: next(),
-    };
-    let mut fill = || Fill {
-        len: next(),
-        first: next() as u8,
-        step: next() as u8,
-        below: 256,
-    };
-    let (cells, cache) = (fill(), fill());
-    let counts = Fill::constant(next(), next() as u8);
-    let case = Case {
-        geometry,
-        state,
-        cells,
-        cache,
-        counts,
-        room: next(),
-        log: log(script),
-    };
-    (name, case)
+/// The numbers of the bench part at power-up.
+const POWER_UP: &str = "10 4 4 8 38 10 1 40 1 0 0 0 0 0 0 0 13 0 0 280 FF 0 14 FF 0 20 0 40";
+
+/// The line that the model prints for a vector.
+fn line(vector: &str) -> Result<String, String> {
+    let vector = Vector::read(vector)?;
+    Ok(vector.line(&model(&vector.case)))
 }
 
-fn instruction(code: u8) -> u16 {
-    match code {
-        0x0B => 0x03,
-        _ if CODES.contains(&code) => code.into(),
-        _ => State::IGNORED,
+#[test]
+fn a_number_that_is_missing_is_0() {
+    let whole = line(&format!("v|{POWER_UP}|04 14 00 [9F 00 00 00]")).expect("a vector");
+    assert!(whole.starts_with("v: 0 records 7 used 13 written 4 "));
+    for more in ["", " ", " 0", " 0 0 0 0 0 0 0 0"] {
+        let longer = line(&format!("v|{POWER_UP}{more}|04 14 00 [9F 00 00 00]"));
+        assert_eq!(longer.as_ref(), Ok(&whole));
     }
+    let without_room = POWER_UP.strip_suffix(" 40").expect("the last number");
+    let no_room = line(&format!("v|{without_room}|02 00")).expect("a vector");
+    assert!(no_room.starts_with("v: 9 records 0 "));
+    assert!(line("v||").expect("a vector").starts_with("v: 1 records 0"));
 }
 
-fn job(code: usize) -> u8 {
-    match code {
-        0 => 0,
-        0x13 => 1,
-        0x10 => 2,
-        0xD8 => 3,
-        _ => panic!("no operation has the code {code:X}"),
+#[test]
+fn what_is_no_vector_is_refused() {
+    let long = format!("v|{POWER_UP}|{}", "06".repeat(2049));
+    let refused = [
+        "v",
+        "v|10 4 4 8",
+        "v|10|06|",
+        "v|10 4 4 8 38 10 1 40 2|",
+        "v|10 4 4 8 38 10 1 40 1 2|",
+        "v|10 4 4 8 38 10 1 40 1 0 0 0 0 0 0 0 14 0 0|",
+        "v|10 4 4 8 38 10 0 40 1 0 0 0 0 0 0 0 0 1 0|",
+        "v|10 4 4 8 0 10 0 40 1 0 0 0 0 0 0 0 0 0 0 10001|",
+        "v|1G|",
+        "v|1a|",
+        "v|100000000|",
+        "v|10|0",
+        "v|10|[0x06]",
+        &long,
+        &format!("v|{POWER_UP} 1|"),
+    ];
+    for vector in refused {
+        assert!(line(vector).is_err(), "{vector}");
     }
-}
-
-/// The log of a script.
-fn log(script: &str) -> Vec<u8> {
-    let mut log = Vec::new();
-    let mut shifting = false;
-    let mut chars = script.chars().filter(|char| !char.is_whitespace());
-    while let Some(char) = chars.next() {
-        match char {
-            '[' => log.push(1),
-            ']' => log.push(3),
-            '(' | ')' => {}
-            high => {
-                let pair: String = [Some(high), chars.next()].into_iter().flatten().collect();
-                if shifting {
-                    log.push(2);
-                }
-                log.push(u8::from_str_radix(&pair, 16).expect("a hex byte"));
-            }
-        }
-        shifting = match char {
-            '[' | ')' => true,
-            ']' | '(' => false,
-            _ => shifting,
-        };
-    }
-    log
-}
-
-/// The line of an outcome.
-fn line(name: &str, case: &Case, outcome: &Outcome) -> String {
-    let (answer, buffers) = (&outcome.answer, &outcome.buffers);
-    let state = &answer.state;
-    let (out, rest) = buffers.out.split_at(answer.written);
-    let untouched = untouched_output(case.room);
-    let written_past = rest
-        .iter()
-        .zip(&untouched[answer.written..])
-        .filter(|(after, before)| after != before)
-        .count();
-    format!(
-        "{name}: {} records {} used {} written {} regs {:02x} {:02x} {:02x} {:02x} {} {} {} {} {} \
-         out {} rest {written_past} cache {} cells {} counts{}",
-        answer.refusal.map_or(0, Refusal::number),
-        answer.records,
-        answer.used,
-        answer.written,
-        state.a0,
-        state.b0,
-        state.c0,
-        state.d0,
-        if state.wp == 1 { "high" } else { "low" },
-        if state.selected == 1 {
-            "selected"
-        } else {
-            "released"
-        },
-        state.count,
-        state.column,
-        operation(state),
-        hex(out),
-        hex(&buffers.cache),
-        changed(&case.cells.bytes(), &buffers.cells),
-        counts(&buffers.counts),
-    )
-}
-
-fn operation(state: &State) -> String {
-    let Some(operation) = state.operation() else {
-        return "idle".into();
-    };
-    let verb = match operation.job {
-        Job::Read => "reads",
-        Job::Program => "programs",
-        Job::Erase => "erases",
-    };
-    format!("{verb} {} {}", operation.row, operation.units)
-}
-
-/// How many cells changed, from where to where, and a hash of their places and bytes.
-fn changed(before: &[u8], after: &[u8]) -> String {
-    let places: Vec<_> = (0..before.len())
-        .filter(|&place| before[place] != after[place])
-        .collect();
-    let (Some(first), Some(last)) = (places.first(), places.last()) else {
-        return "0".into();
-    };
-    let hash = places.iter().fold(0u32, |hash, &place| {
-        hash.wrapping_mul(31)
-            .wrapping_add((place as u32) << 8 | u32::from(after[place]))
-    });
-    format!("{} {first}..{last} {hash:08x}", places.len())
-}
-
-/// The page counts that are not 0.
-fn counts(counts: &[u8]) -> String {
-    let counts = counts.iter().enumerate().filter(|(_, &count)| count != 0);
-    counts
-        .map(|(row, count)| format!(" {row}:{count}"))
-        .collect()
+    assert!(line(&long.replacen("06", "", 1)).is_ok());
 }

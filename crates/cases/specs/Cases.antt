@@ -36,6 +36,10 @@ storing cells = record { cells = cells; cache = replicate 20 255 }
 abbrev pub idleWith : ℕ → ℕ → List ℕ → Machine
 idleWith a c cells = idleOn a c (storing cells)
 
+-- idle, nothing protected, cells as given, the cache 77h: a read shows in it, and one that gives FFh too
+abbrev pub idleStale : List ℕ → Machine
+idleStale cells = overStore (withCache (replicate 20 0x77)) (idleWith 0 0 cells)
+
 -- an instruction: select, its bytes, deselect
 abbrev pub send : List ℕ → List Record
 send bytes = Select ∷ map Shift bytes ++ Deselect ∷ []
@@ -96,8 +100,8 @@ cases =
     ∷ 5 · status (after (idleWith 0 0 blank) (send (0x10 ∷ 0 ∷ 0 ∷ 0 ∷ []))) ⇒ (0x00 ∷ [])
     ∷ 6 · status (after (idleWith 0x38 2 blank) (send (0x10 ∷ 0 ∷ 0 ∷ 0 ∷ []))) ⇒ (0x08 ∷ [])
     ∷ 7 · (let m = after (idleWith 0 0 blank) (program ++ program ++ program ++ program ++ program) in m .state .regs .c0 ∷ take 1 (m .counts)) ⇒ (8 ∷ 4 ∷ [])
-    ∷ 8 · ((after (idleWith 0 0 told) (send (0x13 ∷ 0 ∷ 0 ∷ 31 ∷ []) ++ Units 20 ∷ [])) .store .cache
-    ++ (after (idleWith 0 0 told) (send (0x13 ∷ 0 ∷ 0 ∷ 32 ∷ []) ++ Units 20 ∷ [])) .store .cache)
+    ∷ 8 · ((after (idleStale told) (send (0x13 ∷ 0 ∷ 0 ∷ 31 ∷ []) ++ Units 20 ∷ [])) .store .cache
+    ++ (after (idleStale told) (send (0x13 ∷ 0 ∷ 0 ∷ 32 ∷ []) ++ Units 20 ∷ [])) .store .cache)
     ⇒ (tellingFrom 620 20 ++ replicate 20 255)
     ∷ 9 · status (after (idleWith 0 0 blank) (send (0x06 ∷ 0 ∷ []))) ⇒ (0 ∷ [])
     ∷ 10 · ((after (idleWith 0 0 blank) (send (0x1F ∷ 0xA0 ∷ 0xFF ∷ []))) .state .regs .a0 ∷ []) ⇒ (0xBC ∷ [])

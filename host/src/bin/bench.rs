@@ -11,8 +11,8 @@
 use std::hint::black_box;
 use std::time::{Duration, Instant};
 
-use sleetanvil::lent::{self, Memory};
-use sleetanvil::{paper, Answer, Geometry, Log, Record, State};
+use sleetanvil::case::{Buffers, Case};
+use sleetanvil::{lent, paper, Answer, Geometry, Log, Record, State};
 
 const ROUNDS: usize = 301;
 /// How long one contender runs in a round.
@@ -36,7 +36,7 @@ fn main() {
 
 /// A row for each task on a part.
 fn compare(geometry: &Geometry, tasks: Vec<Task>) {
-    let mut buffers = Buffers::new(geometry);
+    let mut buffers = buffers(geometry);
     for task in tasks {
         check(&task, geometry, &mut buffers);
         let times = measure(&task, &task.log, geometry, &mut buffers);
@@ -49,23 +49,18 @@ fn compare(geometry: &Geometry, tasks: Vec<Task>) {
 }
 
 /// The memory that all contenders share.
-struct Buffers {
-    cells: Vec<u8>,
-    cache: Vec<u8>,
-    counts: Vec<u8>,
-    out: Vec<u8>,
-}
-
-impl Buffers {
-    fn new(geometry: &Geometry) -> Self {
-        let pattern = |place: usize| (place as u8).wrapping_mul(31) | 0x81;
-        Buffers {
-            cells: (0..geometry.cells_len()).map(pattern).collect(),
-            cache: (0..geometry.cache_len()).map(pattern).collect(),
-            counts: vec![0; geometry.counts_len()],
-            out: vec![0; 1 << 20],
+fn buffers(geometry: &Geometry) -> Buffers {
+    let case = Case {
+        room: 1 << 20,
+        ..Case::power_up(*geometry, &[])
+    };
+    let mut buffers = case.buffers();
+    for bytes in [&mut buffers.cells, &mut buffers.cache] {
+        for (place, byte) in bytes.iter_mut().enumerate() {
+            *byte = (place as u8).wrapping_mul(31) | 0x81;
         }
     }
+    buffers
 }
 
 /// Something to do, in three ways.
@@ -325,18 +320,8 @@ impl Driver {
 }
 
 fn run_library(log: &Log, state: &State, geometry: &Geometry, buffers: &mut Buffers) -> Answer {
-    let mut memory = Memory {
-        cells: &mut buffers.cells,
-        cache: &mut buffers.cache,
-        counts: &mut buffers.counts,
-    };
-    lent::run(
-        geometry,
-        *state,
-        log.as_bytes(),
-        &mut memory,
-        &mut buffers.out,
-    )
+    let (mut memory, out) = buffers.lent();
+    lent::run(geometry, *state, log.as_bytes(), &mut memory, out)
 }
 
 fn run_paper(
@@ -345,13 +330,8 @@ fn run_paper(
     geometry: &Geometry,
     buffers: &mut Buffers,
 ) -> paper::Answer {
-    let memory = paper::Memory {
-        cells: &mut buffers.cells,
-        cache: &mut buffers.cache,
-        counts: &mut buffers.counts,
-    };
+    let (memory, out) = buffers.lent_to_paper();
     let part = (*geometry).into();
-    let out = &mut buffers.out;
     paper::run(&part, (*state).into(), log.as_bytes(), memory, out)
 }
 

@@ -1,8 +1,8 @@
 //! Random parts, states, memories and logs, sound and not.
 
+use sleetanvil::case::{Case, Fill};
 use sleetanvil::{paper, Geometry, State};
 
-use super::case::{Case, Fill};
 use super::rng::Rng;
 
 /// The codes that the state keeps.
@@ -25,33 +25,29 @@ impl Generator {
     /// Any case.
     pub fn case(&mut self) -> Case {
         let geometry = self.geometry();
-        let memory = self.memory(&geometry);
-        let state = self.state(&geometry);
-        self.case_of(geometry, memory, state)
+        let mut case = Case::power_up(geometry, &[]);
+        self.fill(&mut case);
+        if self.rng.percent(5) {
+            self.break_length(&mut case);
+        }
+        case.state = self.state(&geometry);
+        self.with_log(case)
     }
 
     /// A case that is not refused before its first record.
     pub fn sound_case(&mut self) -> Case {
         let geometry = self.sound_geometry();
-        let memory = self.sound_memory(&geometry);
-        let state = self.sound_state(&geometry);
-        self.case_of(geometry, memory, state)
+        let mut case = Case::power_up(geometry, &[]);
+        self.fill(&mut case);
+        case.state = self.sound_state(&geometry);
+        self.with_log(case)
     }
 
-    /// The same with a log and room for its output.
-    fn case_of(&mut self, geometry: Geometry, memory: [Fill; 3], state: State) -> Case {
-        let [cells, cache, counts] = memory;
-        let log = self.log(&geometry);
-        let room = self.room(&log);
-        Case {
-            geometry,
-            state,
-            cells,
-            cache,
-            counts,
-            room,
-            log,
-        }
+    /// The case with a log and room for its output.
+    fn with_log(&mut self, mut case: Case) -> Case {
+        case.log = self.log(&case.geometry);
+        case.room = self.room(&case.log);
+        case
     }
 
     /// The output room: enough for the log, or not.
@@ -103,13 +99,15 @@ impl Generator {
                 rng.within(1, 17),
             ),
         };
-        Geometry {
+        let mut geometry = Geometry {
             main: main as u32,
             spare: spare as u32,
             pages: pages as u32,
             blocks: blocks as u32,
-            identity: [self.rng.byte(), self.rng.byte()],
-        }
+            ..Geometry::bench()
+        };
+        geometry.identity = [self.rng.byte(), self.rng.byte()];
+        geometry
     }
 
     /// A geometry with one bound broken, or any numbers that are not sound.
@@ -146,50 +144,47 @@ impl Generator {
 
 /// Memories.
 impl Generator {
-    /// Memory of the right lengths, mostly.
-    pub fn memory(&mut self, geometry: &Geometry) -> [Fill; 3] {
-        let mut memory = self.sound_memory(geometry);
-        if self.rng.percent(5) {
-            let which = self.rng.below(3);
-            let other = self.rng.below(3);
-            match self.rng.below(5) {
-                0 => memory[which].len += 1,
-                1 => memory[which].len = memory[which].len.saturating_sub(1),
-                2 => memory[which].len = 0,
-                3 => memory[which].len = memory[other].len,
-                _ => {
-                    let len = memory[which].len;
-                    memory[which].len = memory[other].len;
-                    memory[other].len = len;
-                }
-            }
-        }
-        memory
-    }
-
     /// Memory of the right lengths; of some lengths for a geometry that is not sound.
-    pub fn sound_memory(&mut self, geometry: &Geometry) -> [Fill; 3] {
-        let [cells, cache, counts] = paper::Part::from(*geometry)
+    fn fill(&mut self, case: &mut Case) {
+        let [cells, cache, counts] = paper::Part::from(case.geometry)
             .lengths()
             .unwrap_or_else(|| [40, 20, 2].map(|most| self.rng.within(0, most)));
-        let counts = Fill {
+        case.counts = Fill {
             len: counts,
             first: self.rng.byte(),
             step: self.rng.byte(),
             below: self.rng.pick(&[1, 1, 5, 6, 256]),
         };
-        [self.contents(cells), self.contents(cache), counts]
+        case.cells = self.contents(cells);
+        case.cache = self.contents(cache);
     }
 
     fn contents(&mut self, len: usize) -> Fill {
         if self.rng.percent(20) {
             return Fill::constant(len, 0xFF);
         }
-        Fill {
-            len,
-            first: self.rng.byte(),
-            step: self.rng.byte(),
-            below: 256,
+        Fill::counting(len, self.rng.byte(), self.rng.byte())
+    }
+
+    /// Memory of a length that is mostly not right.
+    fn break_length(&mut self, case: &mut Case) {
+        let lengths = [
+            &mut case.cells.len,
+            &mut case.cache.len,
+            &mut case.counts.len,
+        ];
+        let which = self.rng.below(lengths.len());
+        let other = self.rng.below(lengths.len());
+        let (length, others) = (*lengths[which], *lengths[other]);
+        match self.rng.below(5) {
+            0 => *lengths[which] += 1,
+            1 => *lengths[which] = length.saturating_sub(1),
+            2 => *lengths[which] = 0,
+            3 => *lengths[which] = others,
+            _ => {
+                *lengths[which] = others;
+                *lengths[other] = length;
+            }
         }
     }
 }
@@ -225,8 +220,7 @@ impl Generator {
             job: 0,
             instruction: instruction(rng),
             column: column(rng, geometry),
-            row: 0,
-            units: 0,
+            ..paper::State::POWER_UP.into()
         };
         if rng.percent(40) {
             begin_operation(rng, geometry, &mut state);

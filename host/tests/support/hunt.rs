@@ -3,9 +3,10 @@
 use std::env;
 use std::str::FromStr;
 
+use sleetanvil::case::{Case, Subject};
 use sleetanvil::paper;
 
-use super::case::{difference, Case, Subject};
+use super::compare::difference;
 use super::generate::Generator;
 
 /// The seed of a run: the environment's `SLEETANVIL_SEED`, or a fixed one.

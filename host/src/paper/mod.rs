@@ -1,0 +1,45 @@
+//! An independent model of document 01, written from the paper alone.
+//!
+//! It shares no code and no type with the proved library. The tests compare the two on random
+//! contents of all their inputs, sound and not, and the benchmark takes this model as what a good
+//! programmer would have written by hand. The vectors' expected lines are printed by it.
+//!
+//! The device comes in as plain numbers ([`State`]), as it does over the C interface, so that
+//! unsound ones can be told apart. A sound one is turned into a `Machine`, whose types leave no
+//! room for the unsound, and back into numbers at the end.
+//!
+//! One module a subject, and what a section of the paper says of it stands there alone:
+//!
+//! | module | subject |
+//! |---|---|
+//! | `part` | a part's geometry, when it is sound, and which blocks are protected |
+//! | `log` | the records of a log, read and written |
+//! | `refusal` | the numbers of refusal |
+//! | `registers` | A0h to D0h: masks, bits, reading and writing |
+//! | `transfer` | chip select and the bytes shifted, one after the other |
+//! | `instructions` | the codes, and what acts when chip select rises |
+//! | `work` | the work of the array: operations, their units, reset and power loss |
+//! | `state` | the state as plain numbers, and when it is sound |
+//! | `run` | a log run on a device: the checks, then record by record |
+//! | `orderly` | whether demand 3 speaks of a log |
+
+mod instructions;
+mod log;
+mod orderly;
+mod part;
+mod refusal;
+mod registers;
+mod run;
+mod state;
+mod transfer;
+mod work;
+
+pub use log::{next, write, Record};
+pub use orderly::judge;
+pub use part::Part;
+pub use refusal::Refusal;
+pub use run::{run, Answer, Memory};
+pub use state::State;
+
+/// A cell or cache byte that is erased, and DO where no answer is named.
+const BLANK: u8 = 0xFF;
