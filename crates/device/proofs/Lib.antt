@@ -1,4 +1,3 @@
-pub mod Fates
 pub mod Units
 pub mod Bytes
 pub mod Division

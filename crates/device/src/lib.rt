@@ -2,14 +2,14 @@
 // Document 01, "Instructions" and "Work of the array". Each method takes the state whole and hands the next one back.
 ghost use mathlib.Core.List.{List};
 ghost use mathlib.Core.Path.{_≡_};
-ghost use Prim.Native.Nat.{ℕ, _<_};
-ghost use lib.ListN.{length, getD};
+ghost use Prim.Native.Nat.{ℕ};
+ghost use lib.ListN.{getD};
 ghost use lib.Dec.{ltb};
 ghost use Rattle.array.specs.Jobs.{store, lengthOf};
 ghost use Rattle.transfer.specs.Transfer.{selects, withPins};
 ghost use Rattle.device.specs.Machine.{machine, busIn, statusIn};
 ghost use Rattle.device.specs.Work.{begun, units, stepping, workedState, WorkReady};
-ghost use Rattle.device.specs.Instructions.{answer, shifts, begins?, usedOf, programFate, eraseFate, counted, uncounted, programs, erases, resetState, writtenState, effect, acted, deselects, CountsReady};
+ghost use Rattle.device.specs.Instructions.{answer, shifts, programs, erases, resetState, writtenState, effect, acted, deselects};
 ghost use Rattle.device.specs.Step.{powerUp, powered};
 ghost use Rattle.device.specs.Sound.{soundState, workSound, inArray, calm};
 use array::Job;
@@ -33,75 +33,6 @@ pub struct State {
 pub struct Shifted {
     pub state: State,
     pub out: u8,
-}
-
-// What becomes of a request to program or to erase.
-pub enum Fate {
-    Begins,
-    ByRow,
-    ByProtection,
-    ByCount,
-}
-
-// Whether a request begins.
-fn begins(f: Fate) -> bool
-    ensures { λ r. ⌜ r ≡ begins? f ⌝ }
-{
-    match f {
-        Fate::Begins => true,
-        Fate::ByRow => false,
-        Fate::ByProtection => false,
-        Fate::ByCount => false,
-    }
-}
-
-// What becomes of an erase: its row may be outside the array, its block protected.
-fn erase_fate(g: Geometry, a0: u8, row: Row) -> Fate
-    ensures { λ r. ⌜ r ≡ eraseFate g a0 row ⌝ }
-{
-    if g.rows() <= part::wide_short(row.0) {
-        return Fate::ByRow;
-    }
-    if part::protected(g, a0, g.block(row)) {
-        return Fate::ByProtection;
-    }
-    Fate::Begins
-}
-
-// What becomes of a program: the same is asked, and then the count.
-fn program_fate(g: Geometry, a0: u8, row: Row, counts: &[u8]) -> Fate
-    requires { ⌜ CountsReady g (now counts) ⌝ }
-    ensures { λ r. ⌜ r ≡ programFate g a0 row (now (counts .entry)) ⌝ }
-{
-    let f = erase_fate(g, a0, row);
-    if !begins(f) {
-        return f;
-    }
-    let at = part::wide_short(row.0);
-    if 4 <= counts[at] {
-        return Fate::ByCount;
-    }
-    Fate::Begins
-}
-
-// A page's count rises by 1.
-fn count_up(row: Row, counts: &mut [u8])
-    requires { ⌜ (row .0 < length (now counts)) × (usedOf row (now counts) < 4) ⌝ }
-    ensures { λ r. ⌜ now (counts .exit) ≡ counted row (now (counts .entry)) ⌝ }
-{
-    let at = part::wide_short(row.0);
-    counts[at] = counts[at] + 1;
-}
-
-// The counts of a block become 0.
-fn uncount(g: Geometry, row: Row, counts: &mut [u8])
-    requires { ⌜ (CountsReady g (now counts)) × (row .0 < length (now counts)) ⌝ }
-    ensures { λ r. ⌜ now (counts .exit) ≡ uncounted g row (now (counts .entry)) ⌝ }
-{
-    let k = part::wide(g.pages);
-    let a = g.block(row) * k;
-    let e = a + k;
-    part::fill(&mut counts[a..e], 0);
 }
 
 // The cache byte at a column, FFh past the page's end.
@@ -236,36 +167,32 @@ impl State {
 
     // 10h with its row.
     fn programs(self, g: Geometry, row: Row, counts: &mut [u8]) -> State
-        requires { ⌜ CountsReady g (now counts) ⌝ }
         ensures { λ r. ⌜ ((cells cache : List ℕ) → machine r cells cache (now (counts .exit)) ≡ programs g (stepping g) row (machine self cells cache (now (counts .entry)))) ⌝ }
     {
         let r = self.regs;
         if !registers::wel(r.c0) {
             return self;
         }
-        let f = program_fate(g, r.a0, row, &*counts);
-        if !begins(f) {
+        let f = requests::ask_program(g, r.a0, row, counts);
+        if !requests::begins(f) {
             return self.with_status(registers::program_failed(r.c0));
         }
-        count_up(row, counts);
         let s = self.with_status(registers::request_cleared(r.c0));
         s.begins(Job::Program(row))
     }
 
     // D8h with its row.
     fn erases(self, g: Geometry, row: Row, counts: &mut [u8]) -> State
-        requires { ⌜ CountsReady g (now counts) ⌝ }
         ensures { λ r. ⌜ ((cells cache : List ℕ) → machine r cells cache (now (counts .exit)) ≡ erases g (stepping g) row (machine self cells cache (now (counts .entry)))) ⌝ }
     {
         let r = self.regs;
         if !registers::wel(r.c0) {
             return self;
         }
-        let f = erase_fate(g, r.a0, row);
-        if !begins(f) {
+        let f = requests::ask_erase(g, r.a0, row, counts);
+        if !requests::begins(f) {
             return self.with_status(registers::erase_failed(r.c0));
         }
-        uncount(g, row, counts);
         let s = self.with_status(registers::request_cleared(r.c0));
         s.begins(Job::Erase(row))
     }
@@ -287,7 +214,6 @@ impl State {
 
     // What the instruction does, its bytes all there.
     fn effect(self, g: Geometry, counts: &mut [u8]) -> State
-        requires { ⌜ CountsReady g (now counts) ⌝ }
         ensures { λ r. ⌜ ((cells cache : List ℕ) → machine r cells cache (now (counts .exit)) ≡ effect g (stepping g) (self .bus .transfer .instruction) (machine self cells cache (now (counts .entry)))) ⌝ }
     {
         let r = self.regs;
@@ -327,7 +253,6 @@ impl State {
 
     // The instruction acts if exactly its bytes were shifted.
     fn acts(self, g: Geometry, counts: &mut [u8]) -> State
-        requires { ⌜ CountsReady g (now counts) ⌝ }
         ensures { λ r. ⌜ ((cells cache : List ℕ) → machine r cells cache (now (counts .exit)) ≡ acted g (stepping g) (machine self cells cache (now (counts .entry)))) ⌝ }
     {
         let x = self.bus;
@@ -340,7 +265,6 @@ impl State {
 
     // Chip select rises.
     pub fn deselect(self, g: Geometry, counts: &mut [u8]) -> State
-        requires { ⌜ CountsReady g (now counts) ⌝ }
         ensures { λ r. ⌜ ((cells cache : List ℕ) → machine r cells cache (now (counts .exit)) ≡ deselects g (stepping g) (machine self cells cache (now (counts .entry)))) ⌝ }
     {
         let x = self.bus;

@@ -2,12 +2,11 @@
 use mathlib.Core.Bool.{not}
 use mathlib.Core.List.{List}
 use mathlib.Core.Path.{_≡_, refl}
-use Prim.Native.Nat.{ℕ, _+_, _*_, _≤_, _<_}
-use Rattle.array.proofs.Room.{rows-in}
+use Prim.Native.Nat.{ℕ, _*_}
 use native.Mathlib.Omega.{arith}
 use lib.Dec.{leb, eqb}
 use lib.ListN.{length, length-append, length-drop, length-replicate, length-set, length-take}
-use Rattle.part.specs.Part.{page, rows, block, Sound}
+use Rattle.part.specs.Part.{page, rows}
 use Rattle.part.specs.declared.Geometry.{Geometry}
 use Rattle.part.specs.declared.Row.{Row}
 use Rattle.part.proofs.Choice.{cond-keep}
@@ -17,7 +16,7 @@ use Rattle.transfer.specs.declared.Transfer.{Transfer}
 use Rattle.array.specs.Jobs.{Store, withCells, withCache, written, Fits}
 use Rattle.array.specs.declared.Job.{Job}
 use Rattle.array.specs.declared.Job.the-variants.{Read, Program, Erase}
-use Rattle.device.specs.Instructions.{counted, uncounted}
+use Rattle.requests.specs.Requests.{counted, uncounted}
 
 fits-cells : (g : Geometry) (l : List ℕ) (s : Store) → length l ≡ rows g * page g → Fits g s → Fits g (withCells l s)
 fits-cells g l s e f = record { cells-long = e; cache-long = f .cache-long }
@@ -56,8 +55,5 @@ cached-long g x b l =
 pub counted-long : (r : Row) (l : List ℕ) → length (counted r l) ≡ length l
 counted-long r l = simp length-set
 
--- the block of a row in the array has all its counts
-pub uncounted-long : (g : Geometry) → Sound g → (r : Row) (l : List ℕ) → r .0 < rows g → length l ≡ rows g → length (uncounted g r l) ≡ rows g
-uncounted-long g s r l h e =
-    let fits : block g r * g .pages + g .pages ≤ rows g = rows-in g r s h in
-    simp (length-append, length-take, length-replicate, length-drop) (omega arith)
+pub uncounted-long : (g : Geometry) (r : Row) (l : List ℕ) → length (uncounted g r l) ≡ length l
+uncounted-long g r l = simp (length-append, length-take, length-replicate, length-drop) (omega arith)

@@ -17,9 +17,10 @@ use Rattle.transfer.specs.declared.Instruction.the-variants.{Ignored, WriteEnab
 use Rattle.array.specs.declared.Job.the-variants.{Read, Program, Erase}
 use Rattle.device.specs.Machine.{Machine, withStatus, withCounts}
 use Rattle.device.specs.Work.{begins, stepping}
-use Rattle.device.specs.declared.Fate.{Fate}
-use Rattle.device.proofs.Fates.{erase-inside, program-begins}
-use Rattle.device.specs.Instructions.{begins?, programFate, eraseFate, counted, uncounted, requested, programs, erases, resets, effect, acted}
+use Rattle.requests.specs.declared.Fate.{Fate}
+use Rattle.requests.specs.Requests.{begins?, programFate, eraseFate, counted, uncounted}
+use Rattle.requests.proofs.Fates.{erase-inside, program-begins}
+use Rattle.device.specs.Instructions.{requested, programs, erases, resets, effect, acted}
 use Rattle.kept.proofs.Masks.{written-in-masks}
 use Rattle.kept.proofs.Lengths.{counted-long, uncounted-long}
 use Rattle.kept.proofs.Sane.{Sane, status-sane, idle-sane, begun-sane}
@@ -59,9 +60,8 @@ module _ (g : Geometry) (s : Sound g) where
   erases-sane r m h =
       requested-sane g (eraseFate g (m .state .regs .a0) r) (λ m′. begins (Erase r) (withCounts (uncounted g r (m′ .counts)) m′)) eFailSet m
       (λ c b. (omega arith, omega arith))
-      (λ m′ e h′. let i : r .0 < rows g = erase-inside g (m .state .regs .a0) r e in
-      begun-sane g s (Erase r) (withCounts (uncounted g r (m′ .counts)) m′) i
-      (counts-sane g (uncounted g r (m′ .counts)) m′ (uncounted-long g s r (m′ .counts) i (h′ .counts)) h′))
+      (λ m′ e h′. begun-sane g s (Erase r) (withCounts (uncounted g r (m′ .counts)) m′) (erase-inside g (m .state .regs .a0) r e)
+      (counts-sane g (uncounted g r (m′ .counts)) m′ (uncounted-long g r (m′ .counts) ∙ h′ .counts) h′))
       h
 
   -- what each instruction does

@@ -25,10 +25,11 @@ use Rattle.transfer.specs.declared.Instruction.{Instruction}
 use Rattle.transfer.specs.declared.Instruction.the-variants.{Ignored, WriteEnable, WriteDisable, GetFeature, SetFeature, ReadId, PageRead, ReadCache, Load, LoadRandom, Execute, BlockErase, Reset}
 use Rattle.device.specs.Machine.{Machine, withStatus, withWork, withCounts, overBus, overStore}
 use Rattle.device.specs.Work.{begins, stepping}
-use Rattle.device.specs.Instructions.{shifts, begins?, programFate, eraseFate, counted, uncounted, requested, programs, erases, resets, effect, acted, deselects}
+use Rattle.device.specs.Instructions.{shifts, requested, programs, erases, resets, effect, acted, deselects}
 use Rattle.device.specs.Step.{off, powered, step}
-use Rattle.device.specs.declared.Fate.{Fate}
-use Rattle.device.proofs.Fates.{erase-inside, program-begins}
+use Rattle.requests.specs.declared.Fate.{Fate}
+use Rattle.requests.specs.Requests.{begins?, programFate, eraseFate, counted, uncounted}
+use Rattle.requests.proofs.Fates.{erase-inside, program-begins}
 use Rattle.kept.specs.Kept.{SoundMachine}
 use Rattle.whole.specs.Whole.{done, whole}
 use Rattle.whole.specs.Orderly.{allowed}

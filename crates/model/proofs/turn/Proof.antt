@@ -8,7 +8,7 @@ use Rattle.device.specs.declared.State.{State}
 use Rattle.device.specs.Machine.{machine}
 use Rattle.device.specs.Work.{stepping}
 use Rattle.device.specs.Step.{step}
-use Rattle.model.proofs.Turns.{work-ready, counts-ready, over-none, over-one}
+use Rattle.model.proofs.Turns.{work-ready, over-none, over-one}
 use borrow.Author.Needs.{needs}
 use Rattle.model.proofs.turn.Statement.{statement}
 use Rattle.model.proofs.turn.Tie as tie
@@ -32,7 +32,7 @@ enum-told-2 : tie.Need-enum-told-2
 enum-told-2 c = search needs
 
 deselect-requires : tie.Need-deselect-requires
-deselect-requires c κs = counts-ready (c .before .before .before .before .before .before .before .args .g) (c .before .before .before .before .before .before .before .pre .0) (machine (c .before .before .before .before .before .before .before .args .s) (now (c .before .before .before .before .before .before .before .args .cells)) (now (c .before .before .before .before .before .before .before .args .cache)) (now (c .before .before .before .before .before .before .before .args .counts))) (c .before .before .before .before .before .before .before .pre .1)
+deselect-requires c κs = search needs
 
 enum-known-e-2 : tie.Need-enum-known-e-2
 enum-known-e-2 c = search needs

@@ -10,9 +10,9 @@ use Rattle.part.specs.Protection.{protects}
 use Rattle.part.specs.declared.Geometry.{Geometry}
 use Rattle.part.specs.declared.Row.{Row}
 use Rattle.array.specs.Jobs.{inside}
-use Rattle.device.specs.declared.Fate.{Fate}
-use Rattle.device.specs.declared.Fate.the-variants.{Begins, ByRow, ByProtection, ByCount}
-use Rattle.device.specs.Instructions.{begins?, barred, usedOf, programFate, eraseFate}
+use Rattle.requests.specs.declared.Fate.{Fate}
+use Rattle.requests.specs.declared.Fate.the-variants.{Begins, ByRow, ByProtection, ByCount}
+use Rattle.requests.specs.Requests.{begins?, barred, usedOf, programFate, eraseFate}
 
 module _ (g : Geometry) (a0 : ℕ) (r : Row) where
   -- asked further only where an erase would begin

@@ -1,9 +1,9 @@
 -- The fate of an erase: its two tests.
 use borrow.Author.Tests.{le-ltb, lt-ltb}
-use Rattle.device.specs.Instructions.{eraseFate}
+use Rattle.requests.specs.Requests.{eraseFate}
 use borrow.Author.Needs.{needs}
-use Rattle.device.proofs.erase_fate.Statement.{statement}
-use Rattle.device.proofs.erase_fate.Tie as tie
+use Rattle.requests.proofs.erase_fate.Statement.{statement}
+use Rattle.requests.proofs.erase_fate.Tie as tie
 
 rows-requires : tie.Need-rows-requires
 rows-requires c κs = search needs
