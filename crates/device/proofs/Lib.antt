@@ -1,4 +1,3 @@
 pub mod Units
 pub mod Bytes
-pub mod Division
 pub mod OneAnswer

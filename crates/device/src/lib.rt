@@ -4,14 +4,13 @@ ghost use mathlib.Core.List.{List};
 ghost use mathlib.Core.Path.{_≡_};
 ghost use Prim.Native.Nat.{ℕ};
 ghost use lib.ListN.{getD};
-ghost use lib.Dec.{ltb};
-ghost use Rattle.array.specs.Jobs.{store, lengthOf};
+ghost use Rattle.array.specs.Jobs.{store};
 ghost use Rattle.transfer.specs.Transfer.{selects, withPins};
 ghost use Rattle.device.specs.Machine.{machine, busIn, statusIn};
 ghost use Rattle.device.specs.Work.{begun, units, stepping, workedState, WorkReady};
 ghost use Rattle.device.specs.Instructions.{answer, shifts, programs, erases, resetState, writtenState, effect, acted, deselects};
 ghost use Rattle.device.specs.Step.{powerUp, powered};
-ghost use Rattle.device.specs.Sound.{soundState, workSound, inArray, calm};
+ghost use Rattle.device.specs.Sound.{soundState};
 use array::Job;
 use array::Work;
 use part::Geometry;
@@ -336,100 +335,16 @@ impl State {
         let r = self.regs;
         let x = self.bus;
         let t = x.transfer;
-        let c = t.column;
         let w = self.work;
-        if r.a0 & 0xBC != r.a0 {
+        if !soundness::registers_sound(g, r) {
             return false;
         }
-        if r.b0 & 0x11 != r.b0 {
+        if !soundness::transfer_sound(t) {
             return false;
         }
-        if r.d0 & 0x60 != r.d0 {
+        if !soundness::work_sound(g, r.c0, w) {
             return false;
         }
-        if r.c0 / 16 != 0 {
-            return false;
-        }
-        if 5 < t.count {
-            return false;
-        }
-        if 4096 < c.0 {
-            return false;
-        }
-        if !work_sound(g, r.c0, w) {
-            return false;
-        }
-        calm(r.c0, t)
+        soundness::calm(r.c0, t)
     }
-}
-
-// Whether OIP is 1 exactly when an operation is in progress, and that is sound.
-fn work_sound(g: Geometry, c: u8, w: Work) -> bool
-    ensures { λ r. ⌜ r ≡ workSound g c w ⌝ }
-{
-    match w {
-        Work::Idle => !registers::oip(c),
-        Work::Busy(job, done) => {
-            if !registers::oip(c) {
-                return false;
-            }
-            if !unit_left(g, job, done) {
-                return false;
-            }
-            in_array(g, job)
-        }
-    }
-}
-
-// Whether an operation has a unit left. The length of an erase is not multiplied out, since that of an unsound part may not fit.
-fn unit_left(g: Geometry, job: Job, done: usize) -> bool
-    ensures { λ r. ⌜ r ≡ ltb done (lengthOf g job) ⌝ }
-{
-    let p = g.page();
-    match job {
-        Job::Read(_) => done < p,
-        Job::Program(_) => done < p,
-        Job::Erase(_) => {
-            if p == 0 {
-                return false;
-            }
-            done / p < part::wide(g.pages)
-        }
-    }
-}
-
-// Whether an operation's row is in the array, where it has to be.
-fn in_array(g: Geometry, job: Job) -> bool
-    ensures { λ r. ⌜ r ≡ inArray g job ⌝ }
-{
-    match job {
-        Job::Read(_) => true,
-        Job::Program(row) => part::wide_short(row.0) < g.rows(),
-        Job::Erase(row) => part::wide_short(row.0) < g.rows(),
-    }
-}
-
-// Whether the transfer is one that a busy array lets be.
-fn calm(c: u8, t: Transfer) -> bool
-    ensures { λ r. ⌜ r ≡ calm c t ⌝ }
-{
-    if !registers::oip(c) {
-        return true;
-    }
-    if !t.selected {
-        return true;
-    }
-    if t.count == 0 {
-        return true;
-    }
-    if t.is(0x0F) {
-        return true;
-    }
-    if t.is(0x9F) {
-        return true;
-    }
-    if t.is(0xFF) {
-        return true;
-    }
-    t.is(256)
 }

@@ -11,7 +11,7 @@ use Rattle.part.proofs.Choice.{cond-keep}
 use Rattle.registers.specs.Registers.{a0Mask, b0Mask, d0Mask, atPowerUp, locked, registerWritten}
 use Rattle.registers.specs.declared.Pins.{Pins}
 use Rattle.registers.specs.declared.Registers.{Registers}
-use Rattle.device.specs.Sound.{Within}
+use Rattle.soundness.specs.Soundness.{Within}
 
 -- ---- AND is associative
 

@@ -21,7 +21,7 @@ use Rattle.device.specs.Machine.{Machine}
 use Rattle.device.specs.Work.{unitOf, units, stepping}
 use Rattle.device.specs.Instructions.{shifts, acted, deselects}
 use Rattle.device.specs.Step.{off, powered, step, run}
-use Rattle.device.specs.Sound.{InProgress, WorkSound}
+use Rattle.soundness.specs.Soundness.{InProgress, WorkSound}
 use Rattle.kept.specs.Kept.{SoundMachine, ByteIn, StepKeeps, RunKeeps}
 use Rattle.kept.proofs.Masks.{start-in-masks}
 use Rattle.kept.proofs.Lengths.{fits-cache, cached-long}

@@ -13,7 +13,7 @@ use Rattle.array.specs.declared.Work.{Work}
 use Rattle.array.specs.declared.Work.the-variants.{Idle, Busy}
 use Rattle.device.specs.Machine.{Machine}
 use Rattle.device.specs.Work.{WorkReady}
-use Rattle.device.specs.Sound.{WorkSound}
+use Rattle.soundness.specs.Soundness.{WorkSound}
 use Rattle.kept.specs.Kept.{SoundMachine}
 
 module _ (g : Geometry) (s : Sound g) where

@@ -2,13 +2,13 @@ use borrow.Author.Tests.{le-ltb}
 use mathlib.Core.Path.{sym}
 use Prim.Native.Nat.{_<_}
 use Rattle.part.specs.Part.{page}
-use Rattle.device.proofs.Division.{div-ltb}
+use Rattle.soundness.proofs.Division.{div-ltb}
 -- An operation has a unit left; for an erase the length is not multiplied out.
 use native.Mathlib.Omega.{arith}
 use native.Mathlib.Nat.{mul-zero}
 use borrow.Author.Needs.{needs}
-use Rattle.device.proofs.unit_left.Statement.{statement}
-use Rattle.device.proofs.unit_left.Tie as tie
+use Rattle.soundness.proofs.unit_left.Statement.{statement}
+use Rattle.soundness.proofs.unit_left.Tie as tie
 
 page-requires : tie.Need-page-requires
 page-requires c κs = search needs

@@ -1,7 +1,7 @@
 -- An operation's row is in the array, where it has to be.
 use borrow.Author.Needs.{needs}
-use Rattle.device.proofs.in_array.Statement.{statement}
-use Rattle.device.proofs.in_array.Tie as tie
+use Rattle.soundness.proofs.in_array.Statement.{statement}
+use Rattle.soundness.proofs.in_array.Tie as tie
 
 enum-told : tie.Need-enum-told
 enum-told c = search needs

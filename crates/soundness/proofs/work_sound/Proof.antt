@@ -1,8 +1,8 @@
 -- OIP is 1 exactly when an operation is in progress, and that is sound: one test after another.
 use borrow.Author.Tests.{not-true, not-false}
 use borrow.Author.Needs.{needs}
-use Rattle.device.proofs.work_sound.Statement.{statement}
-use Rattle.device.proofs.work_sound.Tie as tie
+use Rattle.soundness.proofs.work_sound.Statement.{statement}
+use Rattle.soundness.proofs.work_sound.Tie as tie
 
 enum-told : tie.Need-enum-told
 enum-told c = search needs

@@ -1,8 +1,8 @@
 -- A transfer that a busy array lets be: one test after another.
 use borrow.Author.Tests.{not-true, not-false, ne-eqb}
 use borrow.Author.Needs.{needs}
-use Rattle.device.proofs.calm.Statement.{statement}
-use Rattle.device.proofs.calm.Tie as tie
+use Rattle.soundness.proofs.calm.Statement.{statement}
+use Rattle.soundness.proofs.calm.Tie as tie
 
 oip-requires : tie.Need-oip-requires
 oip-requires c κs = search needs
