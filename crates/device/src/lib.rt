@@ -1,12 +1,10 @@
 // The device: its state, and what each event of the bus does to it.
 // Document 01, "Instructions" and "Work of the array". Each method takes the state whole and hands the next one back.
-ghost use mathlib.Core.List.{List};
 ghost use mathlib.Core.Path.{_≡_};
-ghost use Prim.Native.Nat.{ℕ};
 ghost use lib.ListN.{getD};
 ghost use Rattle.array.specs.Jobs.{store};
 ghost use Rattle.transfer.specs.Transfer.{selects, withPins};
-ghost use Rattle.device.specs.Machine.{machine, busIn, statusIn};
+ghost use Rattle.device.specs.Machine.{Machine, onCache, onCounts, onStore, busIn, statusIn};
 ghost use Rattle.device.specs.Work.{begun, units, stepping, workedState, WorkReady};
 ghost use Rattle.device.specs.Instructions.{answer, shifts, programs, erases, resetState, writtenState, effect, acted, deselects};
 ghost use Rattle.device.specs.Step.{powerUp, powered};
@@ -125,7 +123,7 @@ impl State {
 
     // One byte shifted in on DI, one out on DO.
     pub fn shift(self, g: Geometry, b: u8, cache: &mut [u8]) -> Shifted
-        ensures { λ r. ⌜ ((cells counts : List ℕ) → machine (r .state) cells (now (cache .exit)) counts ≡ shifts g b (machine self cells (now (cache .entry)) counts)) × (r .out ≡ answer g self (now (cache .entry))) ⌝ }
+        ensures { λ r. ⌜ ((m : Machine) → onCache (r .state) (now (cache .exit)) m ≡ shifts g b (onCache self (now (cache .entry)) m)) × (r .out ≡ answer g self (now (cache .entry))) ⌝ }
     {
         let out = self.answer(g, &*cache);
         let x = self.bus;
@@ -166,7 +164,7 @@ impl State {
 
     // 10h with its row.
     fn programs(self, g: Geometry, row: Row, counts: &mut [u8]) -> State
-        ensures { λ r. ⌜ ((cells cache : List ℕ) → machine r cells cache (now (counts .exit)) ≡ programs g (stepping g) row (machine self cells cache (now (counts .entry)))) ⌝ }
+        ensures { λ r. ⌜ ((m : Machine) → onCounts r (now (counts .exit)) m ≡ programs g (stepping g) row (onCounts self (now (counts .entry)) m)) ⌝ }
     {
         let r = self.regs;
         if !registers::wel(r.c0) {
@@ -182,7 +180,7 @@ impl State {
 
     // D8h with its row.
     fn erases(self, g: Geometry, row: Row, counts: &mut [u8]) -> State
-        ensures { λ r. ⌜ ((cells cache : List ℕ) → machine r cells cache (now (counts .exit)) ≡ erases g (stepping g) row (machine self cells cache (now (counts .entry)))) ⌝ }
+        ensures { λ r. ⌜ ((m : Machine) → onCounts r (now (counts .exit)) m ≡ erases g (stepping g) row (onCounts self (now (counts .entry)) m)) ⌝ }
     {
         let r = self.regs;
         if !registers::wel(r.c0) {
@@ -213,7 +211,7 @@ impl State {
 
     // What the instruction does, its bytes all there.
     fn effect(self, g: Geometry, counts: &mut [u8]) -> State
-        ensures { λ r. ⌜ ((cells cache : List ℕ) → machine r cells cache (now (counts .exit)) ≡ effect g (stepping g) (self .bus .transfer .instruction) (machine self cells cache (now (counts .entry)))) ⌝ }
+        ensures { λ r. ⌜ ((m : Machine) → onCounts r (now (counts .exit)) m ≡ effect g (stepping g) (self .bus .transfer .instruction) (onCounts self (now (counts .entry)) m)) ⌝ }
     {
         let r = self.regs;
         let x = self.bus;
@@ -252,7 +250,7 @@ impl State {
 
     // The instruction acts if exactly its bytes were shifted.
     fn acts(self, g: Geometry, counts: &mut [u8]) -> State
-        ensures { λ r. ⌜ ((cells cache : List ℕ) → machine r cells cache (now (counts .exit)) ≡ acted g (stepping g) (machine self cells cache (now (counts .entry)))) ⌝ }
+        ensures { λ r. ⌜ ((m : Machine) → onCounts r (now (counts .exit)) m ≡ acted g (stepping g) (onCounts self (now (counts .entry)) m)) ⌝ }
     {
         let x = self.bus;
         let t = x.transfer;
@@ -264,7 +262,7 @@ impl State {
 
     // Chip select rises.
     pub fn deselect(self, g: Geometry, counts: &mut [u8]) -> State
-        ensures { λ r. ⌜ ((cells cache : List ℕ) → machine r cells cache (now (counts .exit)) ≡ deselects g (stepping g) (machine self cells cache (now (counts .entry)))) ⌝ }
+        ensures { λ r. ⌜ ((m : Machine) → onCounts r (now (counts .exit)) m ≡ deselects g (stepping g) (onCounts self (now (counts .entry)) m)) ⌝ }
     {
         let x = self.bus;
         let t = x.transfer;
@@ -278,7 +276,7 @@ impl State {
 
     // Power lost and back.
     pub fn power(self, g: Geometry, cache: &mut [u8]) -> State
-        ensures { λ r. ⌜ ((cells counts : List ℕ) → machine r cells (now (cache .exit)) counts ≡ powered g (stepping g) (machine self cells (now (cache .entry)) counts)) ⌝ }
+        ensures { λ r. ⌜ ((m : Machine) → onCache r (now (cache .exit)) m ≡ powered g (stepping g) (onCache self (now (cache .entry)) m)) ⌝ }
     {
         part::fill(cache, 0xFF);
         let x = self.bus;
@@ -316,7 +314,7 @@ impl State {
     // Array work of n units.
     pub fn work(self, g: Geometry, n: u16, cells: &mut [u8], cache: &mut [u8]) -> State
         requires { ⌜ WorkReady g (self .work) (store (now cells) (now cache)) ⌝ }
-        ensures { λ r. ⌜ ((counts : List ℕ) → machine r (now (cells .exit)) (now (cache .exit)) counts ≡ units g n (machine self (now (cells .entry)) (now (cache .entry)) counts)) ⌝ }
+        ensures { λ r. ⌜ ((m : Machine) → onStore r (now (cells .exit)) (now (cache .exit)) m ≡ units g n (onStore self (now (cells .entry)) (now (cache .entry)) m)) ⌝ }
     {
         let w = self.work;
         match w {
