@@ -5,7 +5,7 @@ ghost use lib.ListN.{getD};
 ghost use Rattle.array.specs.Jobs.{store};
 ghost use Rattle.transfer.specs.Transfer.{selects, withPins};
 ghost use Rattle.device.specs.Machine.{Machine, onCache, onCounts, onStore, busIn, statusIn};
-ghost use Rattle.device.specs.Work.{begun, units, stepping, workedState, WorkReady};
+ghost use Rattle.device.specs.Work.{begun, endedState, units, stepping, workedState, WorkReady};
 ghost use Rattle.device.specs.Instructions.{answer, shifts, programs, erases, resetState, writtenState, effect, acted, deselects};
 ghost use Rattle.device.specs.Step.{powerUp, powered};
 ghost use Rattle.device.specs.Sound.{soundState};
@@ -288,24 +288,29 @@ impl State {
         s.begins(Job::Read(Row(0)))
     }
 
-    // The state when the work has come so far.
-    fn worked(self, next: Work) -> State
-        ensures { λ r. ⌜ r ≡ workedState next self ⌝ }
+    // The state at an operation's end. (Every operation ends alike today.)
+    fn ended(self, job: Job) -> State
+        ensures { λ r. ⌜ r ≡ endedState job self ⌝ }
+    {
+        let r = self.regs;
+        State {
+            regs: Registers {
+                c0: registers::oip_cleared(r.c0),
+                ..r
+            },
+            work: Work::Idle,
+            ..self
+        }
+    }
+
+    // The state when the work of an operation has come so far.
+    fn worked(self, job: Job, next: Work) -> State
+        ensures { λ r. ⌜ r ≡ workedState job next self ⌝ }
     {
         match next {
-            Work::Idle => {
-                let r = self.regs;
-                State {
-                    regs: Registers {
-                        c0: registers::oip_cleared(r.c0),
-                        ..r
-                    },
-                    work: Work::Idle,
-                    ..self
-                }
-            }
-            Work::Busy(job, done) => State {
-                work: Work::Busy(job, done),
+            Work::Idle => self.ended(job),
+            Work::Busy(same, done) => State {
+                work: Work::Busy(same, done),
                 ..self
             },
         }
@@ -321,7 +326,7 @@ impl State {
             Work::Idle => self,
             Work::Busy(job, done) => {
                 let next = array::advance(g, job, done, n, cells, cache);
-                self.worked(next)
+                self.worked(job, next)
             }
         }
     }

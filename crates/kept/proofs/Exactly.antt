@@ -1,7 +1,7 @@
 -- The test of a sound state says exactly what the record says, and the power-up state is sound.
 use mathlib.Core.Bool.{_&&_}
 use mathlib.Core.Logic.{_↔_}
-use mathlib.Core.Path.{_≡_, refl}
+use mathlib.Core.Path.{_≡_}
 use Prim.Native.Nat.{ℕ, _/_, _≤_, _<_}
 use native.Mathlib.Omega.{arith}
 use lib.Bits.{bitAnd}
@@ -19,9 +19,12 @@ use Rattle.array.specs.declared.Job.the-variants.{Read, Program, Erase}
 use Rattle.array.specs.declared.Work.{Work}
 use Rattle.array.specs.declared.Work.the-variants.{Idle, Busy}
 use Rattle.soundness.specs.Soundness.{Within, HighSound, InProgress, WorkSound, letIn, within, highSound, registersSound, transferSound, inArray, workSound, calm}
+use Rattle.device.specs.Work.{stepping}
+use Rattle.device.specs.Step.{off, powered}
 use Rattle.device.specs.Sound.{SoundState, soundState}
-use Rattle.kept.specs.Kept.{SoundExactly, PowerUpSound}
+use Rattle.kept.specs.Kept.{SoundExactly, PowerUpIs, PowerUpSound}
 use Rattle.kept.proofs.Masks.{start-in-masks}
+use Rattle.kept.proofs.Sane.{none-high}
 use Rattle.kept.proofs.Tests.{some-T, unless, both, four}
 
 -- ---- the tests of numbers
@@ -62,11 +65,14 @@ calm-T c t =
     let u = unless (oip c) (t .selected) (eqb (t .count) 0) (letIn t) in
     (λ k o s n. u .0 k o s (some-T (t .count) .1 n), λ f. u .1 (λ o s n. f o s (some-T (t .count) .0 n)))
 
--- the registers, and the transfer
+-- the high bits of C0h, the registers, and the transfer
+high-T : (h : ℕ) → T (highSound h) ↔ HighSound h
+high-T h = eq-T h 0
+
 registers-T : (g : Geometry) (r : Registers) → T (registersSound g r) ↔ (Within (a0Mask g) (r .a0) × Within b0Mask (r .b0) × Within d0Mask (r .d0) × HighSound (r .c0 / 16))
 registers-T g r =
     four (within (a0Mask g) (r .a0)) (within b0Mask (r .b0)) (within d0Mask (r .d0)) (highSound (r .c0 / 16))
-    (eq-T (bitAnd (r .a0) (a0Mask g)) (r .a0)) (eq-T (bitAnd (r .b0) b0Mask) (r .b0)) (eq-T (bitAnd (r .d0) d0Mask) (r .d0)) (eq-T (r .c0 / 16) 0)
+    (eq-T (bitAnd (r .a0) (a0Mask g)) (r .a0)) (eq-T (bitAnd (r .b0) b0Mask) (r .b0)) (eq-T (bitAnd (r .d0) d0Mask) (r .d0)) (high-T (r .c0 / 16))
 
 transfer-T : (t : Transfer) → T (transferSound t) ↔ ((t .count ≤ 5) × (t .column .0 ≤ 4096))
 transfer-T t = both (leb (t .count) 5) (leb (t .column .0) 4096) (le-T (t .count) 5) (le-T (t .column .0) 4096)
@@ -108,13 +114,19 @@ sound-exactly g s = (in-words, as-test)
     as-test : SoundState g s → T (soundState g s)
     as-test h = all .1 ((h .a0-within, h .b0-within, h .d0-within, h .c0-high), (h .count-small, h .column-small), (h .oip-exactly, h .work-sound), h .let-in)
 
+-- ---- the power-up state
+
+pub power-up-is : PowerUpIs
+unfolding powered off stepping
+power-up-is g m e = rw e
+
 pub power-up-sound : PowerUpSound
 power-up-sound g s =
     record {
       a0-within = start-in-masks g .a0;
       b0-within = start-in-masks g .b0;
       d0-within = start-in-masks g .d0;
-      c0-high = refl;
+      c0-high = none-high;
       oip-exactly = (λ t. tt, λ t. tt);
       count-small = omega arith;
       column-small = omega arith;

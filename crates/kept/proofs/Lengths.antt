@@ -2,27 +2,21 @@
 use mathlib.Core.Bool.{not}
 use mathlib.Core.List.{List}
 use mathlib.Core.Path.{_≡_, refl}
-use Prim.Native.Nat.{ℕ, _*_}
+use Prim.Native.Nat.{ℕ}
 use native.Mathlib.Omega.{arith}
 use lib.Dec.{leb, eqb}
 use lib.ListN.{length, length-append, length-drop, length-replicate, length-set, length-take}
-use Rattle.part.specs.Part.{page, rows}
 use Rattle.part.specs.declared.Geometry.{Geometry}
 use Rattle.part.specs.declared.Row.{Row}
 use Rattle.part.proofs.Choice.{cond-keep}
 use Rattle.transfer.specs.Transfer.{is, bodyHeard, stored, cached}
 use Rattle.transfer.specs.declared.Bus.{Bus}
 use Rattle.transfer.specs.declared.Transfer.{Transfer}
-use Rattle.array.specs.Jobs.{Store, withCells, withCache, written, Fits}
+use Rattle.array.specs.Jobs.{Store, written, Fits}
 use Rattle.array.specs.declared.Job.{Job}
 use Rattle.array.specs.declared.Job.the-variants.{Read, Program, Erase}
 use Rattle.requests.specs.Requests.{counted, uncounted}
-
-fits-cells : (g : Geometry) (l : List ℕ) (s : Store) → length l ≡ rows g * page g → Fits g s → Fits g (withCells l s)
-fits-cells g l s e f = record { cells-long = e; cache-long = f .cache-long }
-
-pub fits-cache : (g : Geometry) (l : List ℕ) (s : Store) → length l ≡ page g → Fits g s → Fits g (withCache l s)
-fits-cache g l s e f = record { cells-long = f .cells-long; cache-long = e }
+use Rattle.kept.proofs.Made.{fits-cells, fits-cache}
 
 -- a unit writes one byte
 pub written-fits : (g : Geometry) (j : Job) (i : ℕ) (s : Store) → Fits g s → Fits g (written g j i s)
