@@ -21,19 +21,19 @@ unfolding units unitOf
 units-idle g zero m e = refl
 units-idle g (suc n) m e = ap (units g n) (ap (λ (w : Work). unitOf g w m) e) ∙ units-idle g n m e
 
+-- the machine with so much of an operation done is in the state that the array's word puts it into
+reached-worked : (g : Geometry) (j : Job) (k : ℕ) (m : Machine) → withState (workedState j (onward g j k) (m .state)) m ≡ reached g j k m
+reached-worked g j k m = go (ltb k (lengthOf g j))
+  where
+    go : (b : Bool) → withState (workedState j (cond b (Busy j k) Idle) (m .state)) m ≡ cond b (withWork (Busy j k) m) (ended g j m)
+    go true = refl
+    go false = refl
+
 -- how far an operation has come does not depend on what was in progress
 reached-over : (g : Geometry) (j : Job) (k : ℕ) (w : Work) (m : Machine) → reached g j k (withWork w m) ≡ reached g j k m
 reached-over g j k w m = go (ltb k (lengthOf g j))
   where
     go : (b : Bool) → cond b (withWork (Busy j k) m) (ended g j (withWork w m)) ≡ cond b (withWork (Busy j k) m) (ended g j m)
-    go true = refl
-    go false = refl
-
--- the state then, and the machine with it
-reached-worked : (g : Geometry) (j : Job) (k : ℕ) (m : Machine) → withState (workedState j (onward g j k) (m .state)) m ≡ reached g j k m
-reached-worked g j k m = go (ltb k (lengthOf g j))
-  where
-    go : (b : Bool) → withState (workedState j (cond b (Busy j k) Idle) (m .state)) m ≡ cond b (withWork (Busy j k) m) (ended g j m)
     go true = refl
     go false = refl
 
