@@ -15,6 +15,7 @@ use Rattle.device.specs.Work.{Array, stepping}
 use Rattle.device.specs.Step.{run}
 use Rattle.device.specs.Sound.{SoundState}
 use Rattle.kept.specs.Kept.{SoundMachine, BytesIn}
+use Rattle.kept.proofs.Made.{fits-of, sound-made}
 use Rattle.kept.proofs.Steps.{run-keeps}
 use Rattle.refusals.specs.Refusals.{numberOf, passed, checkedAs}
 use Rattle.model.specs.Runs.{shiftsIn, fitting, Outcome, andThen, ranOf, runOf}
@@ -32,7 +33,7 @@ module _ (g : Geometry) (m : Machine) where
   pub sound-of : Fine g m → SoundMachine g m
   sound-of f =
       let c = f .before in
-      record { state = f .state; fits = record { cells-long = c .before .before .cells; cache-long = c .before .cache }; counts-long = c .counts }
+      sound-made g m (f .state) (fits-of g (m .store) (c .before .before .cells) (c .before .cache)) (c .counts)
 
   pub fine-of : Sound g → SoundMachine g m → Fine g m
   fine-of p s =

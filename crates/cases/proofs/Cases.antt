@@ -5,7 +5,8 @@ use Rattle.registers.specs.Registers.{registerWritten}
 use Rattle.transfer.specs.Transfer.{instructionOf, selects, shiftedIn, cached}
 use Rattle.array.specs.Jobs.{written}
 use Rattle.device.specs.Work.{unitOf, units, stepping}
-use Rattle.device.specs.Instructions.{shifts, programFate, eraseFate, programs, erases, resets, effect, acted, deselects}
+use Rattle.requests.specs.Requests.{programFate, eraseFate}
+use Rattle.device.specs.Instructions.{shifts, programs, erases, resets, effect, acted, deselects}
 use Rattle.device.specs.Step.{off, powered, step, run}
 use Rattle.cases.specs.Cases.{cases, AllCases}
 

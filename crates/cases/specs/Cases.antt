@@ -11,30 +11,24 @@ use Rattle.part.specs.declared.Geometry.{Geometry}
 use Rattle.buslog.specs.declared.Record.{Record}
 use Rattle.buslog.specs.declared.Record.the-variants.{Select, Shift, Deselect, Units, Power}
 use Rattle.transfer.specs.Transfer.{fresh}
-use Rattle.array.specs.Jobs.{Store, withCache}
+use Rattle.array.specs.Jobs.{withCache}
 use Rattle.array.specs.declared.Work.the-variants.{Idle}
-use Rattle.device.specs.Machine.{Machine, overStore}
+use Rattle.device.specs.declared.State.{State}
+use Rattle.device.specs.Machine.{Machine, machine, overStore}
 use Rattle.device.specs.Work.{stepping}
 use Rattle.device.specs.Step.{run}
 
--- an idle bench part, WP# high: A0h and C0h as given, the store as given, counts 0
-abbrev pub idleOn : ℕ → ℕ → Store → Machine
-idleOn a c s = record {
-  state = record {
-    regs = record { a0 = a; b0 = 0x10; c0 = c; d0 = 0x40 };
-    bus = record { pins = record { wp = true }; transfer = fresh false };
-    work = Idle;
-  };
-  store = s;
-  counts = replicate 32 0;
+-- the state of an idle part, WP# high: A0h and C0h as given
+abbrev pub idleAt : ℕ → ℕ → State
+idleAt a c = record {
+  regs = record { a0 = a; b0 = 0x10; c0 = c; d0 = 0x40 };
+  bus = record { pins = record { wp = true }; transfer = fresh false };
+  work = Idle;
 }
 
--- cells as given, the cache FFh
-abbrev pub storing : List ℕ → Store
-storing cells = record { cells = cells; cache = replicate 20 255 }
-
+-- an idle bench part: the cells as given, the cache FFh, counts 0
 abbrev pub idleWith : ℕ → ℕ → List ℕ → Machine
-idleWith a c cells = idleOn a c (storing cells)
+idleWith a c cells = machine (idleAt a c) cells (replicate 20 255) (replicate 32 0)
 
 -- idle, nothing protected, cells as given, the cache 77h: a read shows in it, and one that gives FFh too
 abbrev pub idleStale : List ℕ → Machine

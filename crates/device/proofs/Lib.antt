@@ -1,5 +1,3 @@
-pub mod Fates
 pub mod Units
 pub mod Bytes
-pub mod Division
 pub mod OneAnswer

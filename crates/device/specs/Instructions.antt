@@ -1,24 +1,21 @@
 -- Document 01, "Instructions": a byte shifted in with its answer on DO, and what an instruction does as chip select rises.
-use mathlib.Core.Bool.{Bool, true, false, not}
-use mathlib.Core.List.{List, _++_}
-use mathlib.Core.Path.{_≡_}
-use Prim.Native.Nat.{ℕ, _+_, _*_}
+use mathlib.Core.Bool.{not}
+use mathlib.Core.List.{List}
+use Prim.Native.Nat.{ℕ}
 use lib.Dec.{leb, eqb}
-use lib.ListN.{length, getD, take, drop, set, replicate}
+use lib.ListN.{getD}
 use Rattle.part.specs.Choice.{if_then_else_}
-use Rattle.part.specs.Part.{rows, block, Sound}
-use Rattle.part.specs.Protection.{protects}
 use Rattle.part.specs.declared.Geometry.{Geometry}
 use Rattle.part.specs.declared.Row.{Row}
 use Rattle.registers.specs.Registers.{oip, wel, welSet, welCleared, requestCleared, eFailSet, pFailSet, resetStatus, register, registerWritten}
 use Rattle.transfer.specs.Transfer.{is, bodyHeard, shiftedIn, cached, rowOf, ends, full}
 use Rattle.transfer.specs.declared.Instruction.{Instruction}
 use Rattle.transfer.specs.declared.Instruction.the-variants.{Ignored, WriteEnable, WriteDisable, GetFeature, SetFeature, ReadId, PageRead, ReadCache, Load, LoadRandom, Execute, BlockErase, Reset}
-use Rattle.array.specs.Jobs.{withCache, inside}
+use Rattle.array.specs.Jobs.{withCache}
 use Rattle.array.specs.declared.Job.the-variants.{Read, Program, Erase}
 use Rattle.array.specs.declared.Work.the-variants.{Idle}
-use Rattle.device.specs.declared.Fate.{Fate}
-use Rattle.device.specs.declared.Fate.the-variants.{Begins, ByRow, ByProtection, ByCount}
+use Rattle.requests.specs.Requests.{begins?, programFate, eraseFate, counted, uncounted}
+use Rattle.requests.specs.declared.Fate.{Fate}
 use Rattle.device.specs.declared.State.{State}
 use Rattle.device.specs.Machine.{Machine, regsIn, workIn, statusIn, withState, overBus, overStore, withStatus, withCounts}
 use Rattle.device.specs.Work.{Array}
@@ -49,38 +46,7 @@ answer g s cache =
     else if is t 0x03 then from 4 n (getD cache (t .column .0) 0xFF)
     else 0xFF
 
--- ---- 10h and D8h
-
--- a request to program or to erase begins, or fails for the first true reason
-abbrev pub begins? : Fate → Bool
-begins? Begins = true
-begins? ByRow = false
-begins? ByProtection = false
-begins? ByCount = false
-
--- the row is outside the array, or its block is protected; else what more there is to ask
-abbrev pub barred : Geometry → ℕ → Row → Fate → Fate
-barred g a0 r rest = if not (inside g r) then ByRow else if protects g a0 (block g r) then ByProtection else rest
-
--- how often the page of a row has been programmed since its block was erased
-abbrev pub usedOf : Row → List ℕ → ℕ
-usedOf r counts = getD counts (r .0) 0
-
--- 10h also fails if the count is 4 or above
-unfoldable pub programFate : Geometry → ℕ → Row → List ℕ → Fate
-programFate g a0 r counts = barred g a0 r (if leb 4 (usedOf r counts) then ByCount else Begins)
-
--- D8h asks no more
-unfoldable pub eraseFate : Geometry → ℕ → Row → Fate
-eraseFate g a0 r = barred g a0 r Begins
-
--- the count rises by 1
-abbrev pub counted : Row → List ℕ → List ℕ
-counted r counts = set counts (r .0) (usedOf r counts + 1)
-
--- the block's counts become 0
-abbrev pub uncounted : Geometry → Row → List ℕ → List ℕ
-uncounted g r counts = let a = block g r * g .pages in take a counts ++ (replicate (g .pages) 0 ++ drop (a + g .pages) counts)
+-- ---- 10h and D8h. (Whether a request begins, and what it does to the page counts, stands with the requests.)
 
 -- with WEL 0 a request does nothing; otherwise WEL and both fail bits are cleared first, and then it is as its fate says
 abbrev pub requested : Fate → (Machine → Machine) → (ℕ → ℕ) → Machine → Machine
@@ -98,11 +64,6 @@ programs g arr r m =
 unfoldable pub erases : Geometry → Array → Row → Machine → Machine
 erases g arr r m =
     requested (eraseFate g (m .state .regs .a0) r) (λ m. arr .begin (Erase r) (withCounts (uncounted g r (m .counts)) m)) eFailSet m
-
--- what a request may count on: a sound part, and one count a page
-pub record CountsReady (g : Geometry) (counts : List ℕ) : Type 0 where
-  pub part : Sound g
-  pub long : length counts ≡ rows g
 
 -- ---- FFh
 

@@ -1,7 +1,7 @@
 -- The machine: the device state and its lent memory, and one part of it changed.
 use mathlib.Core.List.{List}
 use Prim.Native.Nat.{ℕ}
-use Rattle.array.specs.Jobs.{Store, store}
+use Rattle.array.specs.Jobs.{Store, store, withCells, withCache}
 use Rattle.array.specs.declared.Work.{Work}
 use Rattle.registers.specs.declared.Registers.{Registers}
 use Rattle.transfer.specs.declared.Bus.{Bus}
@@ -27,6 +27,17 @@ overStore f m = withStore (f (m .store)) m
 
 abbrev pub withCounts : List ℕ → Machine → Machine
 withCounts l m = record { state = m .state; store = m .store; counts = l }
+
+-- a machine with another state and, of its memory, other cells, another cache register, other counts: what a method has in hand. All the
+-- rest is the machine's own
+abbrev pub onCache : State → List ℕ → Machine → Machine
+onCache s cache m = withState s (overStore (withCache cache) m)
+
+abbrev pub onCounts : State → List ℕ → Machine → Machine
+onCounts s counts m = withState s (withCounts counts m)
+
+abbrev pub onStore : State → List ℕ → List ℕ → Machine → Machine
+onStore s cells cache m = withState s (overStore (λ x. withCells cells (withCache cache x)) m)
 
 -- the state's parts
 abbrev pub regsIn : Registers → State → State

@@ -9,13 +9,13 @@ use Rattle.buslog.specs.declared.Record.{Record}
 use Rattle.buslog.specs.declared.Record.the-variants.{Select, Shift, Deselect, Units, Level, Power}
 use Rattle.array.specs.Jobs.{withCache}
 use Rattle.array.specs.declared.Job.the-variants.{Read}
-use Rattle.array.specs.declared.Work.the-variants.{Idle, Busy}
+use Rattle.array.specs.declared.Work.the-variants.{Idle}
 use Rattle.registers.specs.Registers.{atPowerUp}
 use Rattle.registers.specs.declared.Pins.{Pins}
 use Rattle.transfer.specs.Transfer.{fresh, selects, withPins, withTransfer}
 use Rattle.device.specs.declared.State.{State}
 use Rattle.device.specs.Machine.{Machine, withState, overStore, overBus}
-use Rattle.device.specs.Work.{Array}
+use Rattle.device.specs.Work.{Array, begun}
 use Rattle.device.specs.Instructions.{shifts, deselects}
 
 -- the level of WP# that a level record carries
@@ -37,11 +37,8 @@ powered g arr m = arr .begin (Read (record { 0 = 0 })) (off g (arr .cut m))
 -- the power-up state: this with WP# high
 abbrev pub powerUp : State
 powerUp =
-    record {
-      regs = record { a0 = 0x38; b0 = 0x10; c0 = 0x01; d0 = 0x40 };
-      bus = record { pins = record { wp = true }; transfer = fresh false };
-      work = Busy (Read (record { 0 = 0 })) 0;
-    }
+    begun (Read (record { 0 = 0 }))
+    (record { regs = atPowerUp; bus = record { pins = record { wp = true }; transfer = fresh false }; work = Idle })
 
 -- one record
 unfoldable pub step : Geometry → Array → Machine → Record → Machine

@@ -8,11 +8,12 @@ use Rattle.array.specs.declared.Job.{Job}
 use Rattle.array.specs.declared.Work.{Work}
 use Rattle.array.specs.declared.Work.the-variants.{Idle, Busy}
 use Rattle.device.specs.declared.State.{State}
-use Rattle.device.specs.Machine.{Machine, withState, workIn, statusIn, withWork, withStatus, overStore}
+use Rattle.device.specs.Machine.{Machine, withState, workIn, statusIn, withWork, overStore}
 use Rattle.registers.specs.Registers.{oipSet, oipCleared}
 
 -- An array: what the beginning of an operation does, what a work record does, and what has to be settled before a reset or a power
--- loss stops an operation. All the rest of the machine is written once, over it.
+-- loss stops an operation (nothing, for the arrays there are; it is named for one that works ahead or behind). All the rest of the
+-- machine is written once, over it.
 pub record Array : Type 0 where
   pub begin : Job → Machine → Machine
   pub worked : ℕ → Machine → Machine
@@ -25,26 +26,31 @@ begun j s = workIn (Busy j 0) (statusIn (oipSet (s .regs .c0)) s)
 abbrev pub begins : Job → Machine → Machine
 begins j m = withState (begun j (m .state)) m
 
--- its last unit done, an operation leaves nothing of itself in the state
+-- its last unit done, an operation leaves nothing of itself in the state (part and job are named for an end that does more)
+abbrev pub endedState : Job → State → State
+endedState j s = workIn Idle (statusIn (oipCleared (s .regs .c0)) s)
+
 abbrev pub ended : Geometry → Job → Machine → Machine
-ended g j m = withWork Idle (withStatus (oipCleared (m .state .regs .c0)) m)
+ended g j m = withState (endedState j (m .state)) m
+
+-- with i units done it is in progress, or at its end
+abbrev pub reached : Geometry → Job → ℕ → Machine → Machine
+reached g j i m = if ltb i (lengthOf g j) then withWork (Busy j i) m else ended g j m
 
 -- one unit; with no operation in progress it does nothing
 unfoldable pub unitOf : Geometry → Work → Machine → Machine
 unitOf g Idle m = m
-unitOf g (Busy j i) m =
-    let m₁ = overStore (written g j i) m in
-    if ltb (suc i) (lengthOf g j) then withWork (Busy j (suc i)) m₁ else ended g j m₁
+unitOf g (Busy j i) m = reached g j (suc i) (overStore (written g j i) m)
 
 -- n units
 unfoldable pub units : Geometry → ℕ → Machine → Machine
 units g zero m = m
 units g (suc n) m = units g n (unitOf g (m .state .work) m)
 
--- the state when the work has come so far, OIP with it
-abbrev pub workedState : Work → State → State
-workedState Idle s = workIn Idle (statusIn (oipCleared (s .regs .c0)) s)
-workedState (Busy j i) s = workIn (Busy j i) s
+-- the state when the work of an operation has come so far, OIP with it
+abbrev pub workedState : Job → Work → State → State
+workedState j Idle s = endedState j s
+workedState j (Busy k i) s = workIn (Busy k i) s
 
 -- what the work may count on: with an operation in progress, all that the array asks
 abbrev pub WorkReady : Geometry → Work → Store → Type 0

@@ -1,17 +1,14 @@
 // The device: its state, and what each event of the bus does to it.
 // Document 01, "Instructions" and "Work of the array". Each method takes the state whole and hands the next one back.
-ghost use mathlib.Core.List.{List};
 ghost use mathlib.Core.Path.{_≡_};
-ghost use Prim.Native.Nat.{ℕ, _<_};
-ghost use lib.ListN.{length, getD};
-ghost use lib.Dec.{ltb};
-ghost use Rattle.array.specs.Jobs.{store, lengthOf};
+ghost use lib.ListN.{getD};
+ghost use Rattle.array.specs.Jobs.{store};
 ghost use Rattle.transfer.specs.Transfer.{selects, withPins};
-ghost use Rattle.device.specs.Machine.{machine, busIn, statusIn};
-ghost use Rattle.device.specs.Work.{begun, units, stepping, workedState, WorkReady};
-ghost use Rattle.device.specs.Instructions.{answer, shifts, begins?, usedOf, programFate, eraseFate, counted, uncounted, programs, erases, resetState, writtenState, effect, acted, deselects, CountsReady};
+ghost use Rattle.device.specs.Machine.{Machine, onCache, onCounts, onStore, busIn, statusIn};
+ghost use Rattle.device.specs.Work.{begun, endedState, units, stepping, workedState, WorkReady};
+ghost use Rattle.device.specs.Instructions.{answer, shifts, programs, erases, resetState, writtenState, effect, acted, deselects};
 ghost use Rattle.device.specs.Step.{powerUp, powered};
-ghost use Rattle.device.specs.Sound.{soundState, workSound, inArray, calm};
+ghost use Rattle.device.specs.Sound.{soundState};
 use array::Job;
 use array::Work;
 use part::Geometry;
@@ -33,75 +30,6 @@ pub struct State {
 pub struct Shifted {
     pub state: State,
     pub out: u8,
-}
-
-// What becomes of a request to program or to erase.
-pub enum Fate {
-    Begins,
-    ByRow,
-    ByProtection,
-    ByCount,
-}
-
-// Whether a request begins.
-fn begins(f: Fate) -> bool
-    ensures { λ r. ⌜ r ≡ begins? f ⌝ }
-{
-    match f {
-        Fate::Begins => true,
-        Fate::ByRow => false,
-        Fate::ByProtection => false,
-        Fate::ByCount => false,
-    }
-}
-
-// What becomes of an erase: its row may be outside the array, its block protected.
-fn erase_fate(g: Geometry, a0: u8, row: Row) -> Fate
-    ensures { λ r. ⌜ r ≡ eraseFate g a0 row ⌝ }
-{
-    if g.rows() <= part::wide_short(row.0) {
-        return Fate::ByRow;
-    }
-    if part::protected(g, a0, g.block(row)) {
-        return Fate::ByProtection;
-    }
-    Fate::Begins
-}
-
-// What becomes of a program: the same is asked, and then the count.
-fn program_fate(g: Geometry, a0: u8, row: Row, counts: &[u8]) -> Fate
-    requires { ⌜ CountsReady g (now counts) ⌝ }
-    ensures { λ r. ⌜ r ≡ programFate g a0 row (now (counts .entry)) ⌝ }
-{
-    let f = erase_fate(g, a0, row);
-    if !begins(f) {
-        return f;
-    }
-    let at = part::wide_short(row.0);
-    if 4 <= counts[at] {
-        return Fate::ByCount;
-    }
-    Fate::Begins
-}
-
-// A page's count rises by 1.
-fn count_up(row: Row, counts: &mut [u8])
-    requires { ⌜ (row .0 < length (now counts)) × (usedOf row (now counts) < 4) ⌝ }
-    ensures { λ r. ⌜ now (counts .exit) ≡ counted row (now (counts .entry)) ⌝ }
-{
-    let at = part::wide_short(row.0);
-    counts[at] = counts[at] + 1;
-}
-
-// The counts of a block become 0.
-fn uncount(g: Geometry, row: Row, counts: &mut [u8])
-    requires { ⌜ (CountsReady g (now counts)) × (row .0 < length (now counts)) ⌝ }
-    ensures { λ r. ⌜ now (counts .exit) ≡ uncounted g row (now (counts .entry)) ⌝ }
-{
-    let k = part::wide(g.pages);
-    let a = g.block(row) * k;
-    let e = a + k;
-    part::fill(&mut counts[a..e], 0);
 }
 
 // The cache byte at a column, FFh past the page's end.
@@ -195,7 +123,7 @@ impl State {
 
     // One byte shifted in on DI, one out on DO.
     pub fn shift(self, g: Geometry, b: u8, cache: &mut [u8]) -> Shifted
-        ensures { λ r. ⌜ ((cells counts : List ℕ) → machine (r .state) cells (now (cache .exit)) counts ≡ shifts g b (machine self cells (now (cache .entry)) counts)) × (r .out ≡ answer g self (now (cache .entry))) ⌝ }
+        ensures { λ r. ⌜ ((m : Machine) → onCache (r .state) (now (cache .exit)) m ≡ shifts g b (onCache self (now (cache .entry)) m)) × (r .out ≡ answer g self (now (cache .entry))) ⌝ }
     {
         let out = self.answer(g, &*cache);
         let x = self.bus;
@@ -236,36 +164,32 @@ impl State {
 
     // 10h with its row.
     fn programs(self, g: Geometry, row: Row, counts: &mut [u8]) -> State
-        requires { ⌜ CountsReady g (now counts) ⌝ }
-        ensures { λ r. ⌜ ((cells cache : List ℕ) → machine r cells cache (now (counts .exit)) ≡ programs g (stepping g) row (machine self cells cache (now (counts .entry)))) ⌝ }
+        ensures { λ r. ⌜ ((m : Machine) → onCounts r (now (counts .exit)) m ≡ programs g (stepping g) row (onCounts self (now (counts .entry)) m)) ⌝ }
     {
         let r = self.regs;
         if !registers::wel(r.c0) {
             return self;
         }
-        let f = program_fate(g, r.a0, row, &*counts);
-        if !begins(f) {
+        let f = requests::ask_program(g, r.a0, row, counts);
+        if !requests::begins(f) {
             return self.with_status(registers::program_failed(r.c0));
         }
-        count_up(row, counts);
         let s = self.with_status(registers::request_cleared(r.c0));
         s.begins(Job::Program(row))
     }
 
     // D8h with its row.
     fn erases(self, g: Geometry, row: Row, counts: &mut [u8]) -> State
-        requires { ⌜ CountsReady g (now counts) ⌝ }
-        ensures { λ r. ⌜ ((cells cache : List ℕ) → machine r cells cache (now (counts .exit)) ≡ erases g (stepping g) row (machine self cells cache (now (counts .entry)))) ⌝ }
+        ensures { λ r. ⌜ ((m : Machine) → onCounts r (now (counts .exit)) m ≡ erases g (stepping g) row (onCounts self (now (counts .entry)) m)) ⌝ }
     {
         let r = self.regs;
         if !registers::wel(r.c0) {
             return self;
         }
-        let f = erase_fate(g, r.a0, row);
-        if !begins(f) {
+        let f = requests::ask_erase(g, r.a0, row, counts);
+        if !requests::begins(f) {
             return self.with_status(registers::erase_failed(r.c0));
         }
-        uncount(g, row, counts);
         let s = self.with_status(registers::request_cleared(r.c0));
         s.begins(Job::Erase(row))
     }
@@ -287,8 +211,7 @@ impl State {
 
     // What the instruction does, its bytes all there.
     fn effect(self, g: Geometry, counts: &mut [u8]) -> State
-        requires { ⌜ CountsReady g (now counts) ⌝ }
-        ensures { λ r. ⌜ ((cells cache : List ℕ) → machine r cells cache (now (counts .exit)) ≡ effect g (stepping g) (self .bus .transfer .instruction) (machine self cells cache (now (counts .entry)))) ⌝ }
+        ensures { λ r. ⌜ ((m : Machine) → onCounts r (now (counts .exit)) m ≡ effect g (stepping g) (self .bus .transfer .instruction) (onCounts self (now (counts .entry)) m)) ⌝ }
     {
         let r = self.regs;
         let x = self.bus;
@@ -327,8 +250,7 @@ impl State {
 
     // The instruction acts if exactly its bytes were shifted.
     fn acts(self, g: Geometry, counts: &mut [u8]) -> State
-        requires { ⌜ CountsReady g (now counts) ⌝ }
-        ensures { λ r. ⌜ ((cells cache : List ℕ) → machine r cells cache (now (counts .exit)) ≡ acted g (stepping g) (machine self cells cache (now (counts .entry)))) ⌝ }
+        ensures { λ r. ⌜ ((m : Machine) → onCounts r (now (counts .exit)) m ≡ acted g (stepping g) (onCounts self (now (counts .entry)) m)) ⌝ }
     {
         let x = self.bus;
         let t = x.transfer;
@@ -340,8 +262,7 @@ impl State {
 
     // Chip select rises.
     pub fn deselect(self, g: Geometry, counts: &mut [u8]) -> State
-        requires { ⌜ CountsReady g (now counts) ⌝ }
-        ensures { λ r. ⌜ ((cells cache : List ℕ) → machine r cells cache (now (counts .exit)) ≡ deselects g (stepping g) (machine self cells cache (now (counts .entry)))) ⌝ }
+        ensures { λ r. ⌜ ((m : Machine) → onCounts r (now (counts .exit)) m ≡ deselects g (stepping g) (onCounts self (now (counts .entry)) m)) ⌝ }
     {
         let x = self.bus;
         let t = x.transfer;
@@ -355,7 +276,7 @@ impl State {
 
     // Power lost and back.
     pub fn power(self, g: Geometry, cache: &mut [u8]) -> State
-        ensures { λ r. ⌜ ((cells counts : List ℕ) → machine r cells (now (cache .exit)) counts ≡ powered g (stepping g) (machine self cells (now (cache .entry)) counts)) ⌝ }
+        ensures { λ r. ⌜ ((m : Machine) → onCache r (now (cache .exit)) m ≡ powered g (stepping g) (onCache self (now (cache .entry)) m)) ⌝ }
     {
         part::fill(cache, 0xFF);
         let x = self.bus;
@@ -367,24 +288,29 @@ impl State {
         s.begins(Job::Read(Row(0)))
     }
 
-    // The state when the work has come so far.
-    fn worked(self, next: Work) -> State
-        ensures { λ r. ⌜ r ≡ workedState next self ⌝ }
+    // The state at an operation's end. (Every operation ends alike today.)
+    fn ended(self, job: Job) -> State
+        ensures { λ r. ⌜ r ≡ endedState job self ⌝ }
+    {
+        let r = self.regs;
+        State {
+            regs: Registers {
+                c0: registers::oip_cleared(r.c0),
+                ..r
+            },
+            work: Work::Idle,
+            ..self
+        }
+    }
+
+    // The state when the work of an operation has come so far.
+    fn worked(self, job: Job, next: Work) -> State
+        ensures { λ r. ⌜ r ≡ workedState job next self ⌝ }
     {
         match next {
-            Work::Idle => {
-                let r = self.regs;
-                State {
-                    regs: Registers {
-                        c0: registers::oip_cleared(r.c0),
-                        ..r
-                    },
-                    work: Work::Idle,
-                    ..self
-                }
-            }
-            Work::Busy(job, done) => State {
-                work: Work::Busy(job, done),
+            Work::Idle => self.ended(job),
+            Work::Busy(same, done) => State {
+                work: Work::Busy(same, done),
                 ..self
             },
         }
@@ -393,14 +319,14 @@ impl State {
     // Array work of n units.
     pub fn work(self, g: Geometry, n: u16, cells: &mut [u8], cache: &mut [u8]) -> State
         requires { ⌜ WorkReady g (self .work) (store (now cells) (now cache)) ⌝ }
-        ensures { λ r. ⌜ ((counts : List ℕ) → machine r (now (cells .exit)) (now (cache .exit)) counts ≡ units g n (machine self (now (cells .entry)) (now (cache .entry)) counts)) ⌝ }
+        ensures { λ r. ⌜ ((m : Machine) → onStore r (now (cells .exit)) (now (cache .exit)) m ≡ units g n (onStore self (now (cells .entry)) (now (cache .entry)) m)) ⌝ }
     {
         let w = self.work;
         match w {
             Work::Idle => self,
             Work::Busy(job, done) => {
                 let next = array::advance(g, job, done, n, cells, cache);
-                self.worked(next)
+                self.worked(job, next)
             }
         }
     }
@@ -412,100 +338,16 @@ impl State {
         let r = self.regs;
         let x = self.bus;
         let t = x.transfer;
-        let c = t.column;
         let w = self.work;
-        if r.a0 & 0xBC != r.a0 {
+        if !soundness::registers_sound(g, r) {
             return false;
         }
-        if r.b0 & 0x11 != r.b0 {
+        if !soundness::transfer_sound(t) {
             return false;
         }
-        if r.d0 & 0x60 != r.d0 {
+        if !soundness::work_sound(g, r.c0, w) {
             return false;
         }
-        if r.c0 / 16 != 0 {
-            return false;
-        }
-        if 5 < t.count {
-            return false;
-        }
-        if 4096 < c.0 {
-            return false;
-        }
-        if !work_sound(g, r.c0, w) {
-            return false;
-        }
-        calm(r.c0, t)
+        soundness::calm(r.c0, t)
     }
-}
-
-// Whether OIP is 1 exactly when an operation is in progress, and that is sound.
-fn work_sound(g: Geometry, c: u8, w: Work) -> bool
-    ensures { λ r. ⌜ r ≡ workSound g c w ⌝ }
-{
-    match w {
-        Work::Idle => !registers::oip(c),
-        Work::Busy(job, done) => {
-            if !registers::oip(c) {
-                return false;
-            }
-            if !unit_left(g, job, done) {
-                return false;
-            }
-            in_array(g, job)
-        }
-    }
-}
-
-// Whether an operation has a unit left. The length of an erase is not multiplied out, since that of an unsound part may not fit.
-fn unit_left(g: Geometry, job: Job, done: usize) -> bool
-    ensures { λ r. ⌜ r ≡ ltb done (lengthOf g job) ⌝ }
-{
-    let p = g.page();
-    match job {
-        Job::Read(_) => done < p,
-        Job::Program(_) => done < p,
-        Job::Erase(_) => {
-            if p == 0 {
-                return false;
-            }
-            done / p < part::wide(g.pages)
-        }
-    }
-}
-
-// Whether an operation's row is in the array, where it has to be.
-fn in_array(g: Geometry, job: Job) -> bool
-    ensures { λ r. ⌜ r ≡ inArray g job ⌝ }
-{
-    match job {
-        Job::Read(_) => true,
-        Job::Program(row) => part::wide_short(row.0) < g.rows(),
-        Job::Erase(row) => part::wide_short(row.0) < g.rows(),
-    }
-}
-
-// Whether the transfer is one that a busy array lets be.
-fn calm(c: u8, t: Transfer) -> bool
-    ensures { λ r. ⌜ r ≡ calm c t ⌝ }
-{
-    if !registers::oip(c) {
-        return true;
-    }
-    if !t.selected {
-        return true;
-    }
-    if t.count == 0 {
-        return true;
-    }
-    if t.is(0x0F) {
-        return true;
-    }
-    if t.is(0x9F) {
-        return true;
-    }
-    if t.is(0xFF) {
-        return true;
-    }
-    t.is(256)
 }

@@ -1,7 +1,7 @@
 -- The test of a sound state says exactly what the record says, and the power-up state is sound.
 use mathlib.Core.Bool.{_&&_}
 use mathlib.Core.Logic.{_↔_}
-use mathlib.Core.Path.{_≡_, refl}
+use mathlib.Core.Path.{_≡_}
 use Prim.Native.Nat.{ℕ, _/_, _≤_, _<_}
 use native.Mathlib.Omega.{arith}
 use lib.Bits.{bitAnd}
@@ -18,10 +18,14 @@ use Rattle.array.specs.declared.Job.{Job}
 use Rattle.array.specs.declared.Job.the-variants.{Read, Program, Erase}
 use Rattle.array.specs.declared.Work.{Work}
 use Rattle.array.specs.declared.Work.the-variants.{Idle, Busy}
-use Rattle.device.specs.Sound.{Within, InProgress, WorkSound, letIn, SoundState, within, inArray, workSound, calm, soundState}
-use Rattle.kept.specs.Kept.{SoundExactly, PowerUpSound}
+use Rattle.soundness.specs.Soundness.{Within, HighSound, InProgress, WorkSound, letIn, within, highSound, registersSound, transferSound, inArray, workSound, calm}
+use Rattle.device.specs.Work.{stepping}
+use Rattle.device.specs.Step.{off, powered}
+use Rattle.device.specs.Sound.{SoundState, soundState}
+use Rattle.kept.specs.Kept.{SoundExactly, PowerUpIs, PowerUpSound}
 use Rattle.kept.proofs.Masks.{start-in-masks}
-use Rattle.kept.proofs.Tests.{some-T, unless, both, eight}
+use Rattle.kept.proofs.Sane.{none-high}
+use Rattle.kept.proofs.Tests.{some-T, unless, both, four}
 
 -- ---- the tests of numbers
 
@@ -61,6 +65,18 @@ calm-T c t =
     let u = unless (oip c) (t .selected) (eqb (t .count) 0) (letIn t) in
     (λ k o s n. u .0 k o s (some-T (t .count) .1 n), λ f. u .1 (λ o s n. f o s (some-T (t .count) .0 n)))
 
+-- the high bits of C0h, the registers, and the transfer
+high-T : (h : ℕ) → T (highSound h) ↔ HighSound h
+high-T h = eq-T h 0
+
+registers-T : (g : Geometry) (r : Registers) → T (registersSound g r) ↔ (Within (a0Mask g) (r .a0) × Within b0Mask (r .b0) × Within d0Mask (r .d0) × HighSound (r .c0 / 16))
+registers-T g r =
+    four (within (a0Mask g) (r .a0)) (within b0Mask (r .b0)) (within d0Mask (r .d0)) (highSound (r .c0 / 16))
+    (eq-T (bitAnd (r .a0) (a0Mask g)) (r .a0)) (eq-T (bitAnd (r .b0) b0Mask) (r .b0)) (eq-T (bitAnd (r .d0) d0Mask) (r .d0)) (high-T (r .c0 / 16))
+
+transfer-T : (t : Transfer) → T (transferSound t) ↔ ((t .count ≤ 5) × (t .column .0 ≤ 4096))
+transfer-T t = both (leb (t .count) 5) (leb (t .column .0) 4096) (le-T (t .count) 5) (le-T (t .column .0) 4096)
+
 -- ---- the whole
 
 pub sound-exactly : SoundExactly
@@ -74,30 +90,35 @@ sound-exactly g s = (in-words, as-test)
     t = s .bus .transfer
 
     all : T (soundState g s)
-        ↔ (Within (a0Mask g) (r .a0) × Within b0Mask (r .b0) × Within d0Mask (r .d0) × (r .c0 / 16 ≡ 0) × (t .count ≤ 5) × (t .column .0 ≤ 4096)
+        ↔ ((Within (a0Mask g) (r .a0) × Within b0Mask (r .b0) × Within d0Mask (r .d0) × HighSound (r .c0 / 16)) × ((t .count ≤ 5) × (t .column .0 ≤ 4096))
         × ((T (oip (r .c0)) ↔ InProgress (s .work)) × WorkSound g (s .work)) × (T (oip (r .c0)) → T (t .selected) → 1 ≤ t .count → T (letIn t)))
     all =
-        eight (within (a0Mask g) (r .a0)) (within b0Mask (r .b0)) (within d0Mask (r .d0)) (eqb (r .c0 / 16) 0) (leb (t .count) 5) (leb (t .column .0) 4096) (workSound g (r .c0) (s .work)) (calm (r .c0) t)
-        (eq-T (bitAnd (r .a0) (a0Mask g)) (r .a0)) (eq-T (bitAnd (r .b0) b0Mask) (r .b0)) (eq-T (bitAnd (r .d0) d0Mask) (r .d0)) (eq-T (r .c0 / 16) 0)
-        (le-T (t .count) 5) (le-T (t .column .0) 4096) (work-T g (r .c0) (s .work)) (calm-T (r .c0) t)
+        four (registersSound g r) (transferSound t) (workSound g (r .c0) (s .work)) (calm (r .c0) t)
+        (registers-T g r) (transfer-T t) (work-T g (r .c0) (s .work)) (calm-T (r .c0) t)
 
     in-words : T (soundState g s) → SoundState g s
     in-words x =
         let h = all .0 x in
         record {
-          a0-within = h .0;
-          b0-within = h .1;
-          d0-within = h .2;
-          c0-high = h .3;
-          count-small = h .4;
-          column-small = h .5;
-          oip-exactly = h .6 .0;
-          work-sound = h .6 .1;
-          let-in = h .7;
+          a0-within = h .0 .0;
+          b0-within = h .0 .1;
+          d0-within = h .0 .2;
+          c0-high = h .0 .3;
+          count-small = h .1 .0;
+          column-small = h .1 .1;
+          oip-exactly = h .2 .0;
+          work-sound = h .2 .1;
+          let-in = h .3;
         }
 
     as-test : SoundState g s → T (soundState g s)
-    as-test h = all .1 (h .a0-within, h .b0-within, h .d0-within, h .c0-high, h .count-small, h .column-small, (h .oip-exactly, h .work-sound), h .let-in)
+    as-test h = all .1 ((h .a0-within, h .b0-within, h .d0-within, h .c0-high), (h .count-small, h .column-small), (h .oip-exactly, h .work-sound), h .let-in)
+
+-- ---- the power-up state
+
+pub power-up-is : PowerUpIs
+unfolding powered off stepping
+power-up-is g m e = rw e
 
 pub power-up-sound : PowerUpSound
 power-up-sound g s =
@@ -105,7 +126,7 @@ power-up-sound g s =
       a0-within = start-in-masks g .a0;
       b0-within = start-in-masks g .b0;
       d0-within = start-in-masks g .d0;
-      c0-high = refl;
+      c0-high = none-high;
       oip-exactly = (λ t. tt, λ t. tt);
       count-small = omega arith;
       column-small = omega arith;

@@ -2,28 +2,21 @@
 use mathlib.Core.Bool.{not}
 use mathlib.Core.List.{List}
 use mathlib.Core.Path.{_≡_, refl}
-use Prim.Native.Nat.{ℕ, _+_, _*_, _≤_, _<_}
-use Rattle.array.proofs.Room.{rows-in}
+use Prim.Native.Nat.{ℕ}
 use native.Mathlib.Omega.{arith}
 use lib.Dec.{leb, eqb}
 use lib.ListN.{length, length-append, length-drop, length-replicate, length-set, length-take}
-use Rattle.part.specs.Part.{page, rows, block, Sound}
 use Rattle.part.specs.declared.Geometry.{Geometry}
 use Rattle.part.specs.declared.Row.{Row}
 use Rattle.part.proofs.Choice.{cond-keep}
 use Rattle.transfer.specs.Transfer.{is, bodyHeard, stored, cached}
 use Rattle.transfer.specs.declared.Bus.{Bus}
 use Rattle.transfer.specs.declared.Transfer.{Transfer}
-use Rattle.array.specs.Jobs.{Store, withCells, withCache, written, Fits}
+use Rattle.array.specs.Jobs.{Store, written, Fits}
 use Rattle.array.specs.declared.Job.{Job}
 use Rattle.array.specs.declared.Job.the-variants.{Read, Program, Erase}
-use Rattle.device.specs.Instructions.{counted, uncounted}
-
-fits-cells : (g : Geometry) (l : List ℕ) (s : Store) → length l ≡ rows g * page g → Fits g s → Fits g (withCells l s)
-fits-cells g l s e f = record { cells-long = e; cache-long = f .cache-long }
-
-pub fits-cache : (g : Geometry) (l : List ℕ) (s : Store) → length l ≡ page g → Fits g s → Fits g (withCache l s)
-fits-cache g l s e f = record { cells-long = f .cells-long; cache-long = e }
+use Rattle.requests.specs.Requests.{counted, uncounted}
+use Rattle.kept.proofs.Made.{fits-cells, fits-cache}
 
 -- a unit writes one byte
 pub written-fits : (g : Geometry) (j : Job) (i : ℕ) (s : Store) → Fits g s → Fits g (written g j i s)
@@ -56,8 +49,5 @@ cached-long g x b l =
 pub counted-long : (r : Row) (l : List ℕ) → length (counted r l) ≡ length l
 counted-long r l = simp length-set
 
--- the block of a row in the array has all its counts
-pub uncounted-long : (g : Geometry) → Sound g → (r : Row) (l : List ℕ) → r .0 < rows g → length l ≡ rows g → length (uncounted g r l) ≡ rows g
-uncounted-long g s r l h e =
-    let fits : block g r * g .pages + g .pages ≤ rows g = rows-in g r s h in
-    simp (length-append, length-take, length-replicate, length-drop) (omega arith)
+pub uncounted-long : (g : Geometry) (r : Row) (l : List ℕ) → length (uncounted g r l) ≡ length l
+uncounted-long g r l = simp (length-append, length-take, length-replicate, length-drop) (omega arith)

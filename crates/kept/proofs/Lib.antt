@@ -1,6 +1,7 @@
 pub mod Tests
 pub mod Masks
 pub mod Exactly
+pub mod Made
 pub mod Lengths
 pub mod Sane
 pub mod Requests

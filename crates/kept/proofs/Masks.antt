@@ -11,7 +11,7 @@ use Rattle.part.proofs.Choice.{cond-keep}
 use Rattle.registers.specs.Registers.{a0Mask, b0Mask, d0Mask, atPowerUp, locked, registerWritten}
 use Rattle.registers.specs.declared.Pins.{Pins}
 use Rattle.registers.specs.declared.Registers.{Registers}
-use Rattle.device.specs.Sound.{Within}
+use Rattle.soundness.specs.Soundness.{Within}
 
 -- ---- AND is associative
 
@@ -55,6 +55,10 @@ pub record InMasks (g : Geometry) (r : Registers) : Type 0 where
   pub a0 : Within (a0Mask g) (r .a0)
   pub b0 : Within b0Mask (r .b0)
   pub d0 : Within d0Mask (r .d0)
+
+-- another status register leaves them so
+pub masks-as : (g : Geometry) {a b c c′ d : ℕ} → InMasks g (record { a0 = a; b0 = b; c0 = c; d0 = d }) → InMasks g (record { a0 = a; b0 = b; c0 = c′; d0 = d })
+masks-as g h = record { a0 = h .a0; b0 = h .b0; d0 = h .d0 }
 
 -- the power-up values are within the masks
 pub start-in-masks : (g : Geometry) → InMasks g atPowerUp

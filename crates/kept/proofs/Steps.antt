@@ -12,7 +12,7 @@ use Rattle.part.specs.declared.Geometry.{Geometry}
 use Rattle.part.proofs.Choice.{cond-keep, true-T}
 use Rattle.buslog.specs.declared.Record.{Record}
 use Rattle.buslog.specs.declared.Record.the-variants.{Select, Shift, Deselect, Units, Level, Power}
-use Rattle.registers.specs.Registers.{oip, oipCleared}
+use Rattle.registers.specs.Registers.{oip, oipCleared, atPowerUp}
 use Rattle.array.specs.Jobs.{lengthOf}
 use Rattle.array.specs.declared.Job.the-variants.{Read}
 use Rattle.array.specs.declared.Work.{Work}
@@ -21,11 +21,12 @@ use Rattle.device.specs.Machine.{Machine}
 use Rattle.device.specs.Work.{unitOf, units, stepping}
 use Rattle.device.specs.Instructions.{shifts, acted, deselects}
 use Rattle.device.specs.Step.{off, powered, step, run}
-use Rattle.device.specs.Sound.{InProgress, WorkSound}
+use Rattle.soundness.specs.Soundness.{InProgress, WorkSound}
 use Rattle.kept.specs.Kept.{SoundMachine, ByteIn, StepKeeps, RunKeeps}
 use Rattle.kept.proofs.Masks.{start-in-masks}
-use Rattle.kept.proofs.Lengths.{fits-cache, cached-long}
-use Rattle.kept.proofs.Sane.{Ready, Sane, begun-sane, units-sane}
+use Rattle.kept.proofs.Made.{fits-cache, sound-made}
+use Rattle.kept.proofs.Lengths.{cached-long}
+use Rattle.kept.proofs.Sane.{Ready, sane-made, Sane, over-state, over-memory, none-high, begun-sane, units-sane}
 use Rattle.kept.proofs.Requests.{acted-sane}
 use Rattle.kept.proofs.Transfers.{OnBus, fresh-on-bus, selects-on-bus, shifted-on-bus, status-on-bus}
 
@@ -57,34 +58,28 @@ held-of : (g : Geometry) (m : Machine) → SoundMachine g m → Held g m
 held-of g m h =
     let s = h .state in
     record {
-      sane = record {
-        masks = record { a0 = s .a0-within; b0 = s .b0-within; d0 = s .d0-within };
-        high = s .c0-high;
-        ready = ready-of g (m .state .regs .c0) (m .state .work) (s .oip-exactly .0) (s .oip-exactly .1) (s .work-sound);
-        fits = h .fits;
-        counts = h .counts-long;
-      };
+      sane =
+          sane-made g (m .state .regs) (m .state .work) (m .store) (m .counts) (record { a0 = s .a0-within; b0 = s .b0-within; d0 = s .d0-within }) (s .c0-high)
+          (ready-of g (m .state .regs .c0) (m .state .work) (s .oip-exactly .0) (s .oip-exactly .1) (s .work-sound)) (h .fits) (h .counts-long);
       bus = record { count-small = s .count-small; column-small = s .column-small; let-in = s .let-in };
     }
 
 of-held : (g : Geometry) (m : Machine) → Held g m → SoundMachine g m
 of-held g m h =
     let r : Ready g (m .state .regs .c0 % 2) (m .state .work) = h .sane .ready in
+    sound-made g m
     record {
-      state = record {
-        a0-within = h .sane .masks .a0;
-        b0-within = h .sane .masks .b0;
-        d0-within = h .sane .masks .d0;
-        c0-high = h .sane .high;
-        oip-exactly = (in-progress g (m .state .regs .c0) (m .state .work) r, shown g (m .state .regs .c0) (m .state .work) r);
-        count-small = h .bus .count-small;
-        column-small = h .bus .column-small;
-        work-sound = work-of g (m .state .regs .c0 % 2) (m .state .work) r;
-        let-in = h .bus .let-in;
-      };
-      fits = h .sane .fits;
-      counts-long = h .sane .counts;
+      a0-within = h .sane .masks .a0;
+      b0-within = h .sane .masks .b0;
+      d0-within = h .sane .masks .d0;
+      c0-high = h .sane .high;
+      oip-exactly = (in-progress g (m .state .regs .c0) (m .state .work) r, shown g (m .state .regs .c0) (m .state .work) r);
+      count-small = h .bus .count-small;
+      column-small = h .bus .column-small;
+      work-sound = work-of g (m .state .regs .c0 % 2) (m .state .work) r;
+      let-in = h .bus .let-in;
     }
+    (h .sane .fits) (h .sane .counts)
 
 -- ---- units leave the bus alone, and OIP is 1 after them only where it was
 
@@ -110,13 +105,8 @@ units-on-bus g (suc n) m h = units-on-bus g n (unitOf g (m .state .work) m) (uni
 off-sane : (g : Geometry) (m : Machine) → Sane g m → Sane g (off g m)
 unfolding off
 off-sane g m h =
-    record {
-      masks = start-in-masks g;
-      high = refl;
-      ready = refl;
-      fits = fits-cache g _ (m .store) (length-replicate (length (m .store .cache)) 0xFF ∙ h .fits .cache-long) (h .fits);
-      counts = h .counts;
-    }
+    over-state g atPowerUp Idle (start-in-masks g) none-high refl
+    (over-memory g _ (m .counts) (fits-cache g _ (m .store) (length-replicate (length (m .store .cache)) 0xFF ∙ h .fits .cache-long) (h .fits)) (h .counts) h)
 
 -- each record of the log
 held-step : (g : Geometry) → Sound g → (m : Machine) (e : Record) → ByteIn e → Held g m → Held g (step g (stepping g) m e)
@@ -124,13 +114,7 @@ unfolding step shifts deselects powered off stepping
 held-step g s m Select b h = record { sane = h .sane; bus = selects-on-bus (m .state .regs .c0) (m .state .bus) (h .bus) }
 held-step g s m (Shift v) b h =
     record {
-      sane = record {
-        masks = h .sane .masks;
-        high = h .sane .high;
-        ready = h .sane .ready;
-        fits = fits-cache g _ (m .store) (cached-long g (m .state .bus) v (m .store .cache) ∙ h .sane .fits .cache-long) (h .sane .fits);
-        counts = h .sane .counts;
-      };
+      sane = over-memory g _ (m .counts) (fits-cache g _ (m .store) (cached-long g (m .state .bus) v (m .store .cache) ∙ h .sane .fits .cache-long) (h .sane .fits)) (h .sane .counts) (h .sane);
       bus = shifted-on-bus g (m .state .regs .c0) v (m .state .bus) b (h .bus);
     }
 held-step g s m Deselect b h =

@@ -25,16 +25,10 @@ unless false b z l = (λ t u v w. absurd u, λ f. tt)
 pub both : (a b : Bool) {A B : Type 0} → T a ↔ A → T b ↔ B → T (a && b) ↔ A × B
 both a b p q = (λ t. (p .0 (and-l a b t), q .0 (and-r a b t)), λ h. and-in a b (p .1 (h .0)) (q .1 (h .1)))
 
--- and so for eight
-module _ {A B C D E F G H : Type 0} (a b c d e f g h : Bool) where
-  pub eight : T a ↔ A → T b ↔ B → T c ↔ C → T d ↔ D → T e ↔ E → T f ↔ F → T g ↔ G → T h ↔ H → T (a && b && c && d && e && f && g && h) ↔ (A × B × C × D × E × F × G × H)
-  eight pa pb pc pd pe pf pg ph = (λ t. flat (nested .0 t), λ x. nested .1 (((((((x .0, x .1), x .2), x .3), x .4), x .5), x .6), x .7))
+-- and so for four
+module _ {A B C D : Type 0} (a b c d : Bool) where
+  pub four : T a ↔ A → T b ↔ B → T c ↔ C → T d ↔ D → T (a && b && c && d) ↔ (A × B × C × D)
+  four pa pb pc pd = (λ t. let x = nested .0 t in (x .0 .0 .0, x .0 .0 .1, x .0 .1, x .1), λ x. nested .1 (((x .0, x .1), x .2), x .3))
     where
-      flat : ((((((A × B) × C) × D) × E) × F) × G) × H → A × B × C × D × E × F × G × H
-      flat x = (x .0 .0 .0 .0 .0 .0 .0, x .0 .0 .0 .0 .0 .0 .1, x .0 .0 .0 .0 .0 .1, x .0 .0 .0 .0 .1, x .0 .0 .0 .1, x .0 .0 .1, x .0 .1, x .1)
-
-      nested : T (a && b && c && d && e && f && g && h) ↔ (((((((A × B) × C) × D) × E) × F) × G) × H)
-      nested =
-          both (a && b && c && d && e && f && g) h
-          (both (a && b && c && d && e && f) g (both (a && b && c && d && e) f (both (a && b && c && d) e (both (a && b && c) d (both (a && b) c (both a b pa pb) pc) pd) pe) pf) pg)
-          ph
+      nested : T (a && b && c && d) ↔ (((A × B) × C) × D)
+      nested = both (a && b && c) d (both (a && b) c (both a b pa pb) pc) pd

@@ -13,7 +13,7 @@ use Rattle.transfer.specs.Transfer.{noByte, byteOf, instructionOf, open?, heard
 use Rattle.transfer.specs.declared.Bus.{Bus}
 use Rattle.transfer.specs.declared.Transfer.{Transfer}
 use Rattle.transfer.specs.declared.Instruction.{Instruction}
-use Rattle.device.specs.Sound.{letIn}
+use Rattle.soundness.specs.Soundness.{letIn}
 use Rattle.kept.proofs.Tests.{some-T}
 
 -- over the status register and the transfer alone

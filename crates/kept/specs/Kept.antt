@@ -1,4 +1,5 @@
 -- Soundness is kept: from a sound state, with memory of the right lengths, every step gives a sound state with memory of the right lengths.
+use mathlib.Core.Bool.{true}
 use mathlib.Core.List.{List, [], _∷_}
 use mathlib.Core.Logic.{_↔_}
 use mathlib.Core.Path.{_≡_}
@@ -12,7 +13,7 @@ use Rattle.buslog.specs.declared.Record.the-variants.{Select, Shift, Deselect, 
 use Rattle.array.specs.Jobs.{Fits}
 use Rattle.device.specs.Machine.{Machine}
 use Rattle.device.specs.Work.{Array, stepping}
-use Rattle.device.specs.Step.{powerUp, step, run}
+use Rattle.device.specs.Step.{powered, powerUp, step, run}
 use Rattle.device.specs.Sound.{SoundState, soundState}
 use Rattle.device.specs.declared.State.{State}
 
@@ -38,6 +39,10 @@ BytesIn (e ∷ es) = ByteIn e × BytesIn es
 -- the test of a sound state says exactly what document 01 lists
 abbrev pub SoundExactly : Type 0
 SoundExactly = (g : Geometry) (s : State) → T (soundState g s) ↔ SoundState g s
+
+-- the power-up state is what power lost and back leaves, with WP# high
+abbrev pub PowerUpIs : Type 0
+PowerUpIs = (g : Geometry) (m : Machine) → m .state .bus .pins .wp ≡ true → powered g (stepping g) m .state ≡ powerUp
 
 -- the power-up state is sound
 abbrev pub PowerUpSound : Type 0

@@ -1,12 +1,12 @@
 -- Laws of the part: the soundness test says what the record says, both named parts are sound, and how many blocks can be protected.
 use mathlib.Core.Bool.{Bool, _&&_}
-use mathlib.Core.Logic.{_↔_}
 use Prim.Native.Nat.{ℕ, _-_, _^_, _≤_}
 use native.Mathlib.Nat.{div-le-self}
 use native.Mathlib.Omega.{arith}
 use lib.Dec.{T, leb, eqb, leb→le}
 use borrow.Author.Tests.{le-leb}
 use Rattle.part.specs.Part.{page, rows, Sound, soundPart, bench, fm25s005bi3}
+use Rattle.part.specs.Promises.{SoundPartExactly, NamedPartsSound}
 use Rattle.part.specs.Protection.{guarded}
 use Rattle.part.specs.declared.Geometry.{Geometry}
 use Rattle.part.proofs.Choice.{cond-keep, and-l, and-r}
@@ -24,8 +24,7 @@ six a b c d e f t =
     let t₂ = and-l (a && b) c t₃ in
     (and-l a b t₂, and-r a b t₂, and-r (a && b) c t₃, and-r (a && b && c) d t₄, and-r (a && b && c && d) e t₅, and-r (a && b && c && d && e) f t)
 
--- the test of soundness says exactly what document 01's rule says
-pub sound-exactly : (g : Geometry) → T (soundPart g) ↔ Sound g
+pub sound-exactly : SoundPartExactly
 unfolding soundPart
 sound-exactly g = (in-words, as-test)
   where
@@ -53,11 +52,6 @@ sound-exactly g = (in-words, as-test)
         )
         tt
 
--- both named parts are sound
-pub fm25s005bi3-sound : Sound fm25s005bi3
+pub named-parts-sound : NamedPartsSound
 unfolding soundPart
-fm25s005bi3-sound = sound-exactly fm25s005bi3 .0 tt
-
-pub bench-sound : Sound bench
-unfolding soundPart
-bench-sound = sound-exactly bench .0 tt
+named-parts-sound = (sound-exactly fm25s005bi3 .0 tt, sound-exactly bench .0 tt)

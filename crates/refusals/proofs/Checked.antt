@@ -13,8 +13,8 @@ use Rattle.device.specs.Machine.{Machine}
 use Rattle.device.specs.Sound.{soundState}
 use Rattle.kept.specs.Kept.{SoundMachine}
 use Rattle.kept.proofs.Exactly as state
-use Rattle.refusals.specs.Refusals.{checkOf, passed}
-use Rattle.refusals.specs.Refusals.{checkedAs}
+use Rattle.kept.proofs.Made.{fits-of, sound-made}
+use Rattle.refusals.specs.Refusals.{checkOf, passed, checkedAs}
 use Rattle.refusals.specs.declared.Refusal.{Refusal}
 use Rattle.refusals.specs.declared.Refusal.the-variants.{Done, BadPart, BadCells, BadCache, BadCounts, BadState}
 
@@ -36,11 +36,7 @@ passed-sound g m =
     go true true true true false p q r s t h = none h
     go true true true true true p q r s t h = (
       part.sound-exactly g .0 (true-T (soundPart g) p),
-      record {
-        state = state.sound-exactly g (m .state) .0 (true-T (soundState g (m .state)) t);
-        fits = record { cells-long = eqb-true _ _ q; cache-long = eqb-true _ _ r };
-        counts-long = eqb-true _ _ s;
-      },
+      sound-made g m (state.sound-exactly g (m .state) .0 (true-T (soundState g (m .state)) t)) (fits-of g (m .store) (eqb-true _ _ q) (eqb-true _ _ r)) (eqb-true _ _ s),
     )
 
 -- the same of what the code has

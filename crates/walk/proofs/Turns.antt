@@ -22,8 +22,7 @@ use Rattle.array.specs.declared.Work.{Work}
 use Rattle.array.specs.declared.Work.the-variants.{Idle, Busy}
 use Rattle.device.specs.Machine.{Machine}
 use Rattle.device.specs.Work.{Array, WorkReady}
-use Rattle.device.specs.Sound.{WorkSound}
-use Rattle.device.specs.Instructions.{CountsReady}
+use Rattle.soundness.specs.Soundness.{WorkSound}
 use Rattle.device.specs.Step.{step}
 use Rattle.kept.specs.Kept.{SoundMachine}
 use Rattle.refusals.specs.Refusals.{refusalOf}
@@ -40,9 +39,6 @@ module _ (g : Geometry) (s : Sound g) where
       go : (w : Work) → WorkSound g w → WorkReady g w (m .store)
       go Idle k = tt
       go (Busy j i) k = record { part = s; going = k; fits = h .fits }
-
-  pub counts-ready : (m : Machine) → SoundMachine g m → CountsReady g (m .counts)
-  counts-ready m h = record { part = s; long = h .counts-long }
 
 -- no byte laid changes nothing; one byte laid is one byte stored
 pub over-none : (out : List ℕ) (at : ℕ) → out ≡ over out at []

@@ -5,7 +5,7 @@ use mathlib.Core.Path.{_≡_, refl, sym, ap, _∙_}
 use Prim.Native.Nat.{ℕ, _%_}
 use native.Mathlib.Omega.{arith}
 use lib.Dec.{T}
-use lib.ListN.{length, length-replicate}
+use lib.ListN.{length, replicate, length-replicate}
 use borrow.Author.Tests.{eq-eqb}
 use Rattle.part.specs.Part.{Sound}
 use Rattle.part.specs.declared.Geometry.{Geometry}
@@ -25,11 +25,13 @@ use Rattle.transfer.specs.declared.Instruction.{Instruction}
 use Rattle.transfer.specs.declared.Instruction.the-variants.{Ignored, WriteEnable, WriteDisable, GetFeature, SetFeature, ReadId, PageRead, ReadCache, Load, LoadRandom, Execute, BlockErase, Reset}
 use Rattle.device.specs.Machine.{Machine, withStatus, withWork, withCounts, overBus, overStore}
 use Rattle.device.specs.Work.{begins, stepping}
-use Rattle.device.specs.Instructions.{shifts, begins?, programFate, eraseFate, counted, uncounted, requested, programs, erases, resets, effect, acted, deselects}
+use Rattle.device.specs.Instructions.{shifts, requested, programs, erases, resets, effect, acted, deselects}
 use Rattle.device.specs.Step.{off, powered, step}
-use Rattle.device.specs.declared.Fate.{Fate}
-use Rattle.device.proofs.Fates.{erase-inside, program-begins}
+use Rattle.requests.specs.declared.Fate.{Fate}
+use Rattle.requests.specs.Requests.{begins?, programFate, eraseFate, counted, uncounted}
+use Rattle.requests.proofs.Fates.{erase-inside, program-begins}
 use Rattle.kept.specs.Kept.{SoundMachine}
+use Rattle.kept.proofs.Made.{fits-cache}
 use Rattle.whole.specs.Whole.{done, whole}
 use Rattle.whole.specs.Orderly.{allowed}
 use Rattle.whole.proofs.Finish.{finish, finish-bus, finish-units, finish-idle, finish-begun}
@@ -127,7 +129,7 @@ module _ (g : Geometry) (s : Sound g) where
   -- power lost, the cache register keeps its length
   pub off-fits : (m : Machine) → Fits g (m .store) → Fits g (off g m .store)
   unfolding off
-  off-fits m f = record { cells-long = f .cells-long; cache-long = length-replicate (length (m .store .cache)) 0xFF ∙ f .cache-long }
+  off-fits m f = fits-cache g (replicate (length (m .store .cache)) 0xFF) (m .store) (length-replicate (length (m .store .cache)) 0xFF ∙ f .cache-long) f
 
   idle-step : (m : Machine) → SoundMachine g (withWork Idle m) → (e : Record) → finish g (step g (stepping g) (withWork Idle m) e) ≡ step g (whole g) (withWork Idle m) e
   unfolding step shifts deselects stepping whole powered off

@@ -9,7 +9,8 @@ use Rattle.buslog.specs.Write.{over}
 use Rattle.transfer.specs.Transfer.{instructionOf, selects, shiftedIn, cached}
 use Rattle.array.specs.Jobs as jobs
 use Rattle.device.specs.Work.{unitOf, units, stepping}
-use Rattle.device.specs.Instructions.{shifts, answer, programFate, eraseFate, programs, erases, resets, effect, acted, deselects}
+use Rattle.requests.specs.Requests.{programFate, eraseFate}
+use Rattle.device.specs.Instructions.{shifts, answer, programs, erases, resets, effect, acted, deselects}
 use Rattle.device.specs.Step.{off, powered, step, run}
 use Rattle.device.specs.Sound.{soundState}
 use Rattle.refusals.specs.Refusals.{checkOf}

@@ -9,13 +9,13 @@ use borrow.Author.Tests.{le-ltb, ltb-true, ltb-false}
 use Rattle.part.specs.Part.{Sound}
 use Rattle.part.specs.declared.Geometry.{Geometry}
 use Rattle.registers.specs.Registers.{oipSet, oipCleared}
-use Rattle.array.specs.Jobs.{Store, lengthOf, written, steps, many, onward, InArray, Fits}
+use Rattle.array.specs.Jobs.{Store, lengthOf, written, steps, many, InArray, Fits}
 use Rattle.array.specs.declared.Job.{Job}
 use Rattle.array.specs.declared.Work.{Work}
 use Rattle.array.specs.declared.Work.the-variants.{Idle, Busy}
 use Rattle.transfer.specs.declared.Bus.{Bus}
-use Rattle.device.specs.Machine.{Machine, withState, withStore, overStore, withWork, overBus}
-use Rattle.device.specs.Work.{begins, ended, units, workedState}
+use Rattle.device.specs.Machine.{Machine, withStore, overStore, withWork, overBus}
+use Rattle.device.specs.Work.{begins, ended, reached, units}
 use Rattle.device.proofs.Units.{units-idle, units-busy}
 use Rattle.whole.specs.Whole.{done}
 use Rattle.whole.proofs.Pages.{units-whole}
@@ -45,10 +45,10 @@ steps-on f (suc n) i k x = rw (add-suc i n, ← suc-add i n, suc-add n k) (steps
 
 module _ (g : Geometry) (j : Job) (i : ℕ) (h : i < lengthOf g j) (m : Machine) where
   -- with n units of it done, the rest comes to the same
-  rest-same : (n : ℕ) → finish g (withState (workedState (onward g j (i + n)) (m .state)) (withStore (many g j i n (m .store)) m)) ≡ finishAs g (Busy j i) m
+  rest-same : (n : ℕ) → finish g (reached g j (i + n) (withStore (many g j i n (m .store)) m)) ≡ finishAs g (Busy j i) m
   rest-same n = go (ltb (i + n) (lengthOf g j)) refl
     where
-      go : (b : Bool) → ltb (i + n) (lengthOf g j) ≡ b → finish g (withState (workedState (onward g j (i + n)) (m .state)) (withStore (many g j i n (m .store)) m)) ≡ finishAs g (Busy j i) m
+      go : (b : Bool) → ltb (i + n) (lengthOf g j) ≡ b → finish g (reached g j (i + n) (withStore (many g j i n (m .store)) m)) ≡ finishAs g (Busy j i) m
       go true e =
           let k : i + n < lengthOf g j = ltb-true (i + n) (lengthOf g j) e in
           let p : min n (lengthOf g j - i) ≡ n = omega arith in

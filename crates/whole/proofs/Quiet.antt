@@ -16,7 +16,7 @@ use Rattle.transfer.specs.declared.Instruction.the-variants.{Ignored, WriteEnab
 use Rattle.device.specs.Machine.{Machine, overBus}
 use Rattle.device.specs.Work.{Array}
 use Rattle.device.specs.Instructions.{effect, acted, deselects}
-use Rattle.device.specs.Sound.{letIn}
+use Rattle.soundness.specs.Soundness.{letIn}
 use Rattle.kept.proofs.Tests.{some-T}
 use Rattle.whole.specs.Orderly.{first, unknown, resetting}
 

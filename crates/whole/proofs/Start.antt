@@ -18,8 +18,8 @@ use Rattle.array.specs.declared.Work.the-variants.{Idle, Busy}
 use Rattle.transfer.specs.Transfer.{byteOf, fresh}
 use Rattle.transfer.specs.declared.Transfer.{Transfer}
 use Rattle.transfer.specs.declared.Instruction.{Instruction}
-use Rattle.device.specs.Machine.{Machine, withState, withWork}
-use Rattle.device.specs.Work.{stepping}
+use Rattle.device.specs.Machine.{Machine, withState, withStore, withWork}
+use Rattle.device.specs.Work.{ended, stepping}
 use Rattle.device.specs.Step.{off, powered, powerUp, step}
 use Rattle.device.specs.declared.State.{State}
 use Rattle.kept.specs.Kept.{SoundMachine}
@@ -86,14 +86,7 @@ finish-up : (g : Geometry) → Sound g → (wp : Bool) (m : Machine) → Fits g 
 unfolding powered off whole done
 finish-up g s wp m f =
     let p : page g - 0 ≡ page g = omega arith in
-    rw p (ap (λ (x : Store). finished (powerUpAt wp) x (m .counts)) (units-whole g s (Read (record { 0 = 0 })) tt (m .store) f))
-  where
-    finished : State → Store → List ℕ → Machine
-    finished s x l = record {
-      state = record { regs = record { a0 = 0x38; b0 = 0x10; c0 = 0; d0 = 0x40 }; bus = s .bus; work = Idle };
-      store = x;
-      counts = l;
-    }
+    rw p (ap (λ (x : Store). ended g (Read (record { 0 = 0 })) (withStore x (withState (powerUpAt wp) m))) (units-whole g s (Read (record { 0 = 0 })) tt (m .store) f))
 
 pub idle-finish : (g : Geometry) (m : Machine) → T (idle (m .state)) → finish g m ≡ m
 idle-finish g m t = go (m .state .work) t

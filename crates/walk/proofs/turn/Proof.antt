@@ -8,7 +8,7 @@ use Rattle.device.specs.declared.State.{State}
 use Rattle.device.specs.Machine.{machine}
 use Rattle.device.specs.Work.{stepping}
 use Rattle.device.specs.Step.{step}
-use Rattle.walk.proofs.Turns.{work-ready, counts-ready, over-none, over-one}
+use Rattle.walk.proofs.Turns.{work-ready, over-none, over-one}
 use borrow.Author.Needs.{needs}
 use Rattle.walk.proofs.turn.Statement.{statement}
 use Rattle.walk.proofs.turn.Tie as tie
@@ -32,7 +32,7 @@ enum-told-2 : tie.Need-enum-told-2
 enum-told-2 c = search needs
 
 deselect-requires : tie.Need-deselect-requires
-deselect-requires c κs = counts-ready (c .before .before .before .before .before .before .before .args .g) (c .before .before .before .before .before .before .before .pre .0) (machine (c .before .before .before .before .before .before .before .args .s) (now (c .before .before .before .before .before .before .before .args .cells)) (now (c .before .before .before .before .before .before .before .args .cache)) (now (c .before .before .before .before .before .before .before .args .counts))) (c .before .before .before .before .before .before .before .pre .1)
+deselect-requires c κs = search needs
 
 enum-known-e-2 : tie.Need-enum-known-e-2
 enum-known-e-2 c = search needs
@@ -69,14 +69,14 @@ returns-2 : tie.Need-returns-2
 unfolding step
 returns-2 c =
     let room : c .before .before .before .before .before .before .before .before .before .before .before .before .args .at < length (now (c .before .before .before .before .before .before .before .before .before .before .before .before .args .out)) = omega (arith, rw (c .before .before .before .before .before .before .e .given .1) at (c .before .before .before .before .before .before .before .before .before .before .before .before .pre .2)) in
-    rw (c .before .before .before .before .before .before .e .given .1) (c .before .before .before .shift .ensures .0 (now (c .before .before .before .before .before .before .before .before .before .before .before .before .args .cells)) (now (c .before .before .before .before .before .before .before .before .before .before .before .before .args .counts)), rw (c .before .before .before .shift .ensures .1) (over-one (now (c .before .before .before .before .before .before .before .before .before .before .before .before .args .out)) (c .before .before .before .before .before .before .before .before .before .before .before .before .args .at) _ room))
+    rw (c .before .before .before .before .before .before .e .given .1) (c .before .before .before .shift .ensures .0 (machine (c .before .before .before .before .before .before .before .before .before .before .before .before .args .s) (now (c .before .before .before .before .before .before .before .before .before .before .before .before .args .cells)) (now (c .before .before .before .before .before .before .before .before .before .before .before .before .args .cache)) (now (c .before .before .before .before .before .before .before .before .before .before .before .before .args .counts))), rw (c .before .before .before .shift .ensures .1) (over-one (now (c .before .before .before .before .before .before .before .before .before .before .before .before .args .out)) (c .before .before .before .before .before .before .before .before .before .before .before .before .args .at) _ room))
 
 same-length-3 : tie.Need-same-length-3
 same-length-3 c = search needs
 
 returns-3 : tie.Need-returns-3
 unfolding step
-returns-3 c = rw (c .before .before .before .before .enum-told2 .given .1) (c .before .before .deselect .ensures (now (c .before .before .before .before .before .before .before .before .before .before .args .cells)) (now (c .before .before .before .before .before .before .before .before .before .before .args .cache)), over-none (now (c .before .before .before .before .before .before .before .before .before .before .args .out)) (c .before .before .before .before .before .before .before .before .before .before .args .at))
+returns-3 c = rw (c .before .before .before .before .enum-told2 .given .1) (c .before .before .deselect .ensures (machine (c .before .before .before .before .before .before .before .before .before .before .args .s) (now (c .before .before .before .before .before .before .before .before .before .before .args .cells)) (now (c .before .before .before .before .before .before .before .before .before .before .args .cache)) (now (c .before .before .before .before .before .before .before .before .before .before .args .counts))), over-none (now (c .before .before .before .before .before .before .before .before .before .before .args .out)) (c .before .before .before .before .before .before .before .before .before .before .args .at))
 
 same-length-4 : tie.Need-same-length-4
 same-length-4 c = search needs
@@ -86,7 +86,7 @@ same-length-5 c = search needs
 
 returns-4 : tie.Need-returns-4
 unfolding step stepping
-returns-4 c = rw (c .before .before .before .before .before .before .before .before .e2 .given .1) (c .before .before .before .before .work .ensures (now (c .before .before .before .before .before .before .before .before .before .before .before .before .before .before .args .counts)), over-none (now (c .before .before .before .before .before .before .before .before .before .before .before .before .before .before .args .out)) (c .before .before .before .before .before .before .before .before .before .before .before .before .before .before .args .at))
+returns-4 c = rw (c .before .before .before .before .before .before .before .before .e2 .given .1) (c .before .before .before .before .work .ensures (machine (c .before .before .before .before .before .before .before .before .before .before .before .before .before .before .args .s) (now (c .before .before .before .before .before .before .before .before .before .before .before .before .before .before .args .cells)) (now (c .before .before .before .before .before .before .before .before .before .before .before .before .before .before .args .cache)) (now (c .before .before .before .before .before .before .before .before .before .before .before .before .before .before .args .counts))), over-none (now (c .before .before .before .before .before .before .before .before .before .before .before .before .before .before .args .out)) (c .before .before .before .before .before .before .before .before .before .before .before .before .before .before .args .at))
 
 returns-5 : tie.Need-returns-5
 unfolding step
@@ -97,7 +97,7 @@ same-length-6 c = search needs
 
 returns-6 : tie.Need-returns-6
 unfolding step
-returns-6 c = rw (c .before .before .before .before .enum-told3 .given .1) (c .before .before .power .ensures (now (c .before .before .before .before .before .before .before .before .before .before .args .cells)) (now (c .before .before .before .before .before .before .before .before .before .before .args .counts)), over-none (now (c .before .before .before .before .before .before .before .before .before .before .args .out)) (c .before .before .before .before .before .before .before .before .before .before .args .at))
+returns-6 c = rw (c .before .before .before .before .enum-told3 .given .1) (c .before .before .power .ensures (machine (c .before .before .before .before .before .before .before .before .before .before .args .s) (now (c .before .before .before .before .before .before .before .before .before .before .args .cells)) (now (c .before .before .before .before .before .before .before .before .before .before .args .cache)) (now (c .before .before .before .before .before .before .before .before .before .before .args .counts))), over-none (now (c .before .before .before .before .before .before .before .before .before .before .args .out)) (c .before .before .before .before .before .before .before .before .before .before .args .at))
 
 pub turn-spec : {M : Type 1} → statement M
 turn-spec =

@@ -15,11 +15,11 @@ same-length c = search needs
 
 returns : tie.Need-returns
 unfolding acted
-returns c = λ cells cache. rw (← (c .before .before .before .before .before .full .ensures), c .before .before .before .before .if1 .taken) (c .before .before .effect .ensures cells cache)
+returns c = λ m. rw (← (c .before .before .before .before .before .full .ensures), c .before .before .before .before .if1 .taken) (c .before .before .effect .ensures m)
 
 returns-2 : tie.Need-returns-2
 unfolding acted
-returns-2 c = λ cells cache. rw (← (c .before .full .ensures), c .if1 .left)
+returns-2 c = λ m. rw (← (c .before .full .ensures), c .if1 .left)
 
 pub acts-spec : {M : Type 1} → statement M
 acts-spec = tie.close (tie.spec full-requires effect-requires same-length returns returns-2)

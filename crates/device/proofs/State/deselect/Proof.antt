@@ -12,7 +12,7 @@ use Rattle.device.proofs.State.deselect.Tie as tie
 
 returns : tie.Need-returns
 unfolding deselects
-returns c = λ cells cache. rw (not-true (c .before .before .before .before .before .args .self .bus .transfer .selected) (c .if1 .taken))
+returns c = λ m. rw (not-true (c .before .before .before .before .before .args .self .bus .transfer .selected) (c .if1 .taken))
 
 acts-requires : tie.Need-acts-requires
 acts-requires c κs = search needs
@@ -25,7 +25,7 @@ same-length c = search needs
 
 returns-2 : tie.Need-returns-2
 unfolding deselects
-returns-2 c = λ cells cache. rw (c .before .ends .ensures) (ap (overBus ends) (c .before .before .before .before .before .acts .ensures cells cache) ∙ sym (cond-yes (c .before .before .before .before .before .before .before .before .before .before .before .before .args .self .bus .transfer .selected) _ _ (not-false (c .before .before .before .before .before .before .before .before .before .before .before .before .args .self .bus .transfer .selected) (c .before .before .before .before .before .before .before .if1 .left))))
+returns-2 c = λ m. rw (c .before .ends .ensures) (ap (overBus ends) (c .before .before .before .before .before .acts .ensures m) ∙ sym (cond-yes (c .before .before .before .before .before .before .before .before .before .before .before .before .args .self .bus .transfer .selected) _ _ (not-false (c .before .before .before .before .before .before .before .before .before .before .before .before .args .self .bus .transfer .selected) (c .before .before .before .before .before .before .before .if1 .left))))
 
 pub deselect-spec : {M : Type 1} → statement M
 deselect-spec = tie.close (tie.spec returns acts-requires ends-requires same-length returns-2)

@@ -1,7 +1,7 @@
 use mathlib.Core.Path.{sym, ap, _∙_}
 use denote.Ref.{now}
 use Rattle.transfer.specs.declared.Instruction.{Instruction}
-use Rattle.device.specs.Machine.{machine}
+use Rattle.device.specs.Machine.{onCounts}
 -- What each instruction does: the arm's instruction decides the definition.
 use Rattle.device.specs.Work.{stepping}
 use Rattle.device.specs.Instructions.{resets, effect}
@@ -86,19 +86,19 @@ enum-told-13 c = search needs
 
 returns : tie.Need-returns
 unfolding effect
-returns c = λ cells cache. rw (c .with-status .ensures, c .before .wel-set .ensures, c .before .before .enum-told .given .1)
+returns c = λ m. rw (c .with-status .ensures, c .before .wel-set .ensures, c .before .before .enum-told .given .1)
 
 returns-2 : tie.Need-returns-2
 unfolding effect
-returns-2 c = λ cells cache. rw (c .with-status2 .ensures, c .before .wel-cleared .ensures, c .before .before .enum-told2 .given .1)
+returns-2 c = λ m. rw (c .with-status2 .ensures, c .before .wel-cleared .ensures, c .before .before .enum-told2 .given .1)
 
 returns-3 : tie.Need-returns-3
 unfolding effect
-returns-3 c = λ cells cache. rw (c .writes .ensures, c .before .enum-told3 .given .1)
+returns-3 c = λ m. rw (c .writes .ensures, c .before .enum-told3 .given .1)
 
 returns-4 : tie.Need-returns-4
 unfolding effect stepping
-returns-4 c = λ cells cache. rw (c .begins .ensures, c .before .row .ensures, c .before .before .enum-told4 .given .1)
+returns-4 c = λ m. rw (c .begins .ensures, c .before .row .ensures, c .before .before .enum-told4 .given .1)
 
 same-length : tie.Need-same-length
 same-length c = search needs
@@ -106,9 +106,9 @@ same-length c = search needs
 returns-5 : tie.Need-returns-5
 unfolding effect
 returns-5 c =
-    λ cells cache.
-    (rw (c .before .before .before .before .row2 .ensures) at (c .before .before .programs .ensures cells cache))
-    ∙ ap (λ (i : Instruction). effect (c .before .before .before .before .before .before .before .before .before .before .before .args .g) (stepping (c .before .before .before .before .before .before .before .before .before .before .before .args .g)) i (machine (c .before .before .before .before .before .before .before .before .before .before .before .args .self) cells cache (now (c .before .before .before .before .before .before .before .before .before .before .before .args .counts)))) (sym (c .before .before .before .before .before .enum-told5 .given .1))
+    λ m.
+    (rw (c .before .before .before .before .row2 .ensures) at (c .before .before .programs .ensures m))
+    ∙ ap (λ (i : Instruction). effect (c .before .before .before .before .before .before .before .before .before .before .before .args .g) (stepping (c .before .before .before .before .before .before .before .before .before .before .before .args .g)) i (onCounts (c .before .before .before .before .before .before .before .before .before .before .before .args .self) (now (c .before .before .before .before .before .before .before .before .before .before .before .args .counts)) m)) (sym (c .before .before .before .before .before .enum-told5 .given .1))
 
 same-length-2 : tie.Need-same-length-2
 same-length-2 c = search needs
@@ -116,37 +116,37 @@ same-length-2 c = search needs
 returns-6 : tie.Need-returns-6
 unfolding effect
 returns-6 c =
-    λ cells cache.
-    (rw (c .before .before .before .before .row3 .ensures) at (c .before .before .erases .ensures cells cache))
-    ∙ ap (λ (i : Instruction). effect (c .before .before .before .before .before .before .before .before .before .before .before .args .g) (stepping (c .before .before .before .before .before .before .before .before .before .before .before .args .g)) i (machine (c .before .before .before .before .before .before .before .before .before .before .before .args .self) cells cache (now (c .before .before .before .before .before .before .before .before .before .before .before .args .counts)))) (sym (c .before .before .before .before .before .enum-told6 .given .1))
+    λ m.
+    (rw (c .before .before .before .before .row3 .ensures) at (c .before .before .erases .ensures m))
+    ∙ ap (λ (i : Instruction). effect (c .before .before .before .before .before .before .before .before .before .before .before .args .g) (stepping (c .before .before .before .before .before .before .before .before .before .before .before .args .g)) i (onCounts (c .before .before .before .before .before .before .before .before .before .before .before .args .self) (now (c .before .before .before .before .before .before .before .before .before .before .before .args .counts)) m)) (sym (c .before .before .before .before .before .enum-told6 .given .1))
 
 returns-7 : tie.Need-returns-7
 unfolding effect resets stepping
-returns-7 c = λ cells cache. rw (c .resets .ensures, c .before .enum-told7 .given .1)
+returns-7 c = λ m. rw (c .resets .ensures, c .before .enum-told7 .given .1)
 
 returns-8 : tie.Need-returns-8
 unfolding effect
-returns-8 c = λ cells cache. rw (c .enum-told8 .given .1)
+returns-8 c = λ m. rw (c .enum-told8 .given .1)
 
 returns-9 : tie.Need-returns-9
 unfolding effect
-returns-9 c = λ cells cache. rw (c .enum-told9 .given .1)
+returns-9 c = λ m. rw (c .enum-told9 .given .1)
 
 returns-10 : tie.Need-returns-10
 unfolding effect
-returns-10 c = λ cells cache. rw (c .enum-told10 .given .1)
+returns-10 c = λ m. rw (c .enum-told10 .given .1)
 
 returns-11 : tie.Need-returns-11
 unfolding effect
-returns-11 c = λ cells cache. rw (c .enum-told11 .given .1)
+returns-11 c = λ m. rw (c .enum-told11 .given .1)
 
 returns-12 : tie.Need-returns-12
 unfolding effect
-returns-12 c = λ cells cache. rw (c .enum-told12 .given .1)
+returns-12 c = λ m. rw (c .enum-told12 .given .1)
 
 returns-13 : tie.Need-returns-13
 unfolding effect
-returns-13 c = λ cells cache. rw (c .enum-told13 .given .1)
+returns-13 c = λ m. rw (c .enum-told13 .given .1)
 
 pub effect-spec : {M : Type 1} → statement M
 effect-spec =

@@ -1,11 +1,7 @@
 -- D8h: nothing with WEL 0; otherwise as its fate says.
-use native.Mathlib.Omega.{arith}
-use mathlib.Core.Bool.{true}
-use mathlib.Core.Path.{_≡_, sym, ap, _∙_}
 use borrow.Author.Tests.{not-true, not-false}
 use Rattle.device.specs.Work.{stepping}
-use Rattle.device.specs.Instructions.{begins?, eraseFate, erases}
-use Rattle.device.proofs.Fates.{erase-inside}
+use Rattle.device.specs.Instructions.{erases}
 use borrow.Author.Needs.{needs}
 use Rattle.device.proofs.State.erases.Statement.{statement}
 use Rattle.device.proofs.State.erases.Tie as tie
@@ -15,10 +11,10 @@ wel-requires c κs = search needs
 
 returns : tie.Need-returns
 unfolding erases
-returns c = λ cells cache. rw (← (c .before .wel .ensures), not-true (c .before .wel .result) (c .if1 .taken))
+returns c = λ m. rw (← (c .before .wel .ensures), not-true (c .before .wel .result) (c .if1 .taken))
 
-erase-fate-requires : tie.Need-erase-fate-requires
-erase-fate-requires c κs = search needs
+ask-erase-requires : tie.Need-ask-erase-requires
+ask-erase-requires c κs = search needs
 
 begins-requires : tie.Need-begins-requires
 begins-requires c κs = search needs
@@ -29,14 +25,12 @@ erase-failed-requires c κs = search needs
 with-status-requires : tie.Need-with-status-requires
 with-status-requires c κs = search needs
 
+same-length : tie.Need-same-length
+same-length c = search needs
+
 returns-2 : tie.Need-returns-2
 unfolding erases
-returns-2 c = λ cells cache. rw (c .with-status .ensures, c .before .erase-failed .ensures, ← (c .before .before .before .before .before .before .wel .ensures), not-false (c .before .before .before .before .before .before .wel .result) (c .before .before .before .before .before .if1 .left), ← (c .before .before .before .before .erase-fate .ensures), ← (c .before .before .before .begins .ensures), not-true (c .before .before .before .begins .result) (c .before .before .if2 .taken))
-
-uncount-requires : tie.Need-uncount-requires
-uncount-requires c κs =
-    let b : begins? (eraseFate (c .before .before .before .before .before .before .before .before .args .g) (c .before .before .before .before .before .before .before .before .args .self .regs .a0) (c .before .before .before .before .before .before .before .before .args .row)) ≡ true = ap begins? (sym (c .before .before .before .erase-fate .ensures)) ∙ sym (c .before .before .begins .ensures) ∙ not-false (c .before .before .begins .result) (c .before .if2 .left) in
-    (c .before .before .before .before .before .before .before .before .pre, omega (arith, erase-inside (c .before .before .before .before .before .before .before .before .args .g) (c .before .before .before .before .before .before .before .before .args .self .regs .a0) (c .before .before .before .before .before .before .before .before .args .row) b, c .before .before .before .before .before .before .before .before .pre .long))
+returns-2 c = λ m. rw (c .with-status .ensures, c .before .erase-failed .ensures, c .before .before .before .before .before .before .ask-erase .ensures .1, ← (c .before .before .before .before .before .before .before .before .before .wel .ensures), not-false (c .before .before .before .before .before .before .before .before .before .wel .result) (c .before .before .before .before .before .before .before .before .if1 .left), ← (c .before .before .before .before .before .before .ask-erase .ensures .0), ← (c .before .before .before .begins .ensures), not-true (c .before .before .before .begins .result) (c .before .before .if2 .taken))
 
 request-cleared-requires : tie.Need-request-cleared-requires
 request-cleared-requires c κs = search needs
@@ -47,12 +41,12 @@ with-status-requires-2 c κs = search needs
 begins-requires-2 : tie.Need-begins-requires-2
 begins-requires-2 c κs = search needs
 
-same-length : tie.Need-same-length
-same-length c = search needs
+same-length-2 : tie.Need-same-length-2
+same-length-2 c = search needs
 
 returns-3 : tie.Need-returns-3
 unfolding erases stepping
-returns-3 c = λ cells cache. rw (c .begins2 .ensures, c .before .with-status2 .ensures, c .before .before .request-cleared .ensures, c .before .before .before .before .before .uncount .ensures, ← (c .before .before .before .before .before .before .before .before .before .before .before .wel .ensures), not-false (c .before .before .before .before .before .before .before .before .before .before .before .wel .result) (c .before .before .before .before .before .before .before .before .before .before .if1 .left), ← (c .before .before .before .before .before .before .before .before .before .erase-fate .ensures), ← (c .before .before .before .before .before .before .before .before .begins .ensures), not-false (c .before .before .before .before .before .before .before .before .begins .result) (c .before .before .before .before .before .before .before .if2 .left))
+returns-3 c = λ m. rw (c .begins2 .ensures, c .before .with-status2 .ensures, c .before .before .request-cleared .ensures, c .before .before .before .before .before .before .before .ask-erase .ensures .1, ← (c .before .before .before .before .before .before .before .before .before .before .wel .ensures), not-false (c .before .before .before .before .before .before .before .before .before .before .wel .result) (c .before .before .before .before .before .before .before .before .before .if1 .left), ← (c .before .before .before .before .before .before .before .ask-erase .ensures .0), ← (c .before .before .before .before .begins .ensures), not-false (c .before .before .before .before .begins .result) (c .before .before .before .if2 .left))
 
 pub erases-spec : {M : Type 1} → statement M
 erases-spec =
@@ -60,14 +54,14 @@ erases-spec =
     (tie.spec
     wel-requires
     returns
-    erase-fate-requires
+    ask-erase-requires
     begins-requires
     erase-failed-requires
     with-status-requires
+    same-length
     returns-2
-    uncount-requires
     request-cleared-requires
     with-status-requires-2
     begins-requires-2
-    same-length
+    same-length-2
     returns-3)

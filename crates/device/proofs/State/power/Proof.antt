@@ -22,7 +22,7 @@ same-length c = search needs
 
 returns : tie.Need-returns
 unfolding stepping off powered
-returns c = λ cells counts. rw (c .begins .ensures, c .before .ends .ensures, c .before .before .at-power-up .ensures, c .before .before .before .before .before .before .fill .ensures)
+returns c = λ m. rw (c .begins .ensures, c .before .ends .ensures, c .before .before .at-power-up .ensures, c .before .before .before .before .before .before .fill .ensures)
 
 pub power-spec : {M : Type 1} → statement M
 power-spec =

@@ -21,7 +21,7 @@ same-length c = search needs
 
 returns : tie.Need-returns
 unfolding shifts
-returns c = (λ cells counts. rw (c .before .shifted-in .ensures, c .before .before .oip .ensures, c .before .before .before .before .before .caches .ensures), c .before .before .before .before .before .before .before .before .before .answer .ensures)
+returns c = (λ m. rw (c .before .shifted-in .ensures, c .before .before .oip .ensures, c .before .before .before .before .before .caches .ensures), c .before .before .before .before .before .before .before .before .before .answer .ensures)
 
 pub shift-spec : {M : Type 1} → statement M
 shift-spec =

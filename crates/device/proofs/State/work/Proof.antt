@@ -1,11 +1,9 @@
 -- n units: the array does them, and the state says where it has come to.
-use mathlib.Core.Path.{sym, ap₂, _∙_}
+use mathlib.Core.Path.{sym}
 use denote.Ref.{now}
-use Rattle.array.specs.Jobs.{Store}
-use Rattle.array.specs.declared.Work.{Work}
-use Rattle.device.specs.Machine.{machine, withState, withStore}
-use Rattle.device.specs.Work.{workedState}
-use Rattle.device.proofs.Units.{units-idle, units-busy}
+use Rattle.array.specs.Jobs.{store}
+use Rattle.device.specs.Machine.{onStore}
+use Rattle.device.proofs.Units.{units-idle, units-done}
 use borrow.Author.Needs.{needs}
 use Rattle.device.proofs.State.work.Statement.{statement}
 use Rattle.device.proofs.State.work.Tie as tie
@@ -23,7 +21,7 @@ worked-requires : tie.Need-worked-requires
 worked-requires c κs = search needs
 
 returns : tie.Need-returns
-returns c = λ counts. sym (units-idle (c .before .before .before .before .args .g) (c .before .before .before .before .args .n) (machine (c .before .before .before .before .args .self) (now (c .before .before .before .before .args .cells)) (now (c .before .before .before .before .args .cache)) counts) (c .enum-told .given .1))
+returns c = λ m. sym (units-idle (c .before .before .before .before .args .g) (c .before .before .before .before .args .n) (onStore (c .before .before .before .before .args .self) (now (c .before .before .before .before .args .cells)) (now (c .before .before .before .before .args .cache)) m) (c .enum-told .given .1))
 
 same-length : tie.Need-same-length
 same-length c = search needs
@@ -33,13 +31,13 @@ same-length-2 c = search needs
 
 returns-2 : tie.Need-returns-2
 returns-2 c =
-    λ counts.
+    λ m.
     let a = c .before .before .before .before .before .before .before .before .before .before .before .before .before .args in
-    let m = machine (a .self) (now (a .cells)) (now (a .cache)) counts in
-    let going = rw (c .before .before .before .before .before .before .before .before .before .w .given .1) at (c .before .before .before .before .before .before .before .before .before .before .before .before .before .pre) in
+    let w = c .before .before .before .before .before .before .before .before .before .w .given in
+    let m₁ = onStore (a .self) (now (a .cells)) (now (a .cache)) m in
+    let ready = rw (w .1) at (c .before .before .before .before .before .before .before .before .before .before .before .before .before .pre) in
     rw (c .worked .ensures)
-    (ap₂ (λ (w : Work) (s : Store). withState (workedState w (a .self)) (withStore s m)) (c .before .before .before .before .before .advance .ensures .0) (c .before .before .before .before .before .advance .ensures .1)
-    ∙ sym (units-busy (a .g) _ (a .n) _ m (going .going .unit-left) (c .before .before .before .before .before .before .before .before .before .w .given .1)))
+    (units-done (a .g) (w .0 .0) (a .n) (w .0 .1 .0) m₁ (c .before .before .before .before .before .advance .result) (store (c .before .before .before .before .before .advance .last .1 .1 .1 .1 .0) (c .before .before .before .before .before .advance .last .1 .1 .1 .1 .1 .0)) (ready .going .unit-left) (w .1) (c .before .before .before .before .before .advance .ensures .0) (c .before .before .before .before .before .advance .ensures .1))
 
 pub work-spec : {M : Type 1} → statement M
 work-spec =

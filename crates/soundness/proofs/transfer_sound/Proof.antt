@@ -1,0 +1,13 @@
+-- The transfer of a sound state: the count, and then the column.
+use borrow.Author.Tests.{le-leb, lt-leb}
+use Rattle.soundness.proofs.transfer_sound.Statement.{statement}
+use Rattle.soundness.proofs.transfer_sound.Tie as tie
+
+returns : tie.Need-returns
+returns c = rw (lt-leb _ _ (c .if1 .taken))
+
+returns-2 : tie.Need-returns-2
+returns-2 c = rw (le-leb _ _ (c .before .if1 .left))
+
+pub transfer-sound-spec : {M : Type 1} → statement M
+transfer-sound-spec = tie.close (tie.spec returns returns-2)
