@@ -3,12 +3,11 @@ use mathlib.Core.Bool.{not}
 use mathlib.Core.List.{List}
 use Prim.Native.Nat.{ℕ}
 use lib.Dec.{leb, eqb}
-use lib.ListN.{getD}
 use Rattle.part.specs.Choice.{if_then_else_}
 use Rattle.part.specs.declared.Geometry.{Geometry}
 use Rattle.part.specs.declared.Row.{Row}
 use Rattle.registers.specs.Registers.{oip, wel, welSet, welCleared, requestCleared, eFailSet, pFailSet, resetStatus, register, registerWritten}
-use Rattle.transfer.specs.Transfer.{is, bodyHeard, shiftedIn, cached, rowOf, ends, full}
+use Rattle.transfer.specs.Transfer.{is, bodyHeard, shiftedIn, cached, rowOf, ends, full, cacheByte}
 use Rattle.transfer.specs.declared.Instruction.{Instruction}
 use Rattle.transfer.specs.declared.Instruction.the-variants.{Ignored, WriteEnable, WriteDisable, GetFeature, SetFeature, ReadId, PageRead, ReadCache, Load, LoadRandom, Execute, BlockErase, Reset}
 use Rattle.array.specs.Jobs.{withCache}
@@ -43,7 +42,7 @@ answer g s cache =
     if not (bodyHeard (s .bus)) then 0xFF
     else if is t 0x0F then from 2 n (register (s .regs) (t .first))
     else if is t 0x9F then if eqb n 2 then g .id0 else if eqb n 3 then g .id1 else 0xFF
-    else if is t 0x03 then from 4 n (getD cache (t .column .0) 0xFF)
+    else if is t 0x03 then from 4 n (cacheByte cache (t .column))
     else 0xFF
 
 -- ---- 10h and D8h. (Whether a request begins, and what it does to the page counts, stands with the requests.)

@@ -32,18 +32,6 @@ pub struct Shifted {
     pub out: u8,
 }
 
-// The cache byte at a column, FFh past the page's end.
-fn cache_byte(t: Transfer, cache: &[u8]) -> u8
-    ensures { λ r. ⌜ r ≡ getD (now (cache .entry)) (t .column .0) 0xFF ⌝ }
-{
-    let c = t.column;
-    let at = part::wide_short(c.0);
-    if at < cache.len() {
-        return cache[at];
-    }
-    0xFF
-}
-
 impl State {
     // The power-up state, WP# high.
     pub fn power_up() -> State
@@ -116,7 +104,8 @@ impl State {
             if n < 4 {
                 return 0xFF;
             }
-            return cache_byte(t, cache);
+            let c = t.column;
+            return transfer::byte_at(cache, c);
         }
         0xFF
     }

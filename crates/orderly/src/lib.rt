@@ -76,7 +76,7 @@ fn unknown(b: u8) -> bool
         instruction: transfer::instruction_of(b),
         ..Transfer::fresh(false)
     };
-    t.is(256)
+    t.is(transfer::NO_BYTE)
 }
 
 // Whether chip select, rising now, lets a reset take effect.
@@ -130,7 +130,7 @@ fn up_transfer(t: Transfer) -> bool
     ensures { λ r. ⌜ r ≡ upTransfer t ⌝ }
 {
     let c = t.column;
-    let none = both(both(!t.selected, t.count == 0), t.is(256));
+    let none = both(both(!t.selected, t.count == 0), t.is(transfer::NO_BYTE));
     let bytes = both(both(both(none, t.first == 0), t.second == 0), t.third == 0);
     both(bytes, c.0 == 0)
 }

@@ -69,4 +69,4 @@ module _ (g : Geometry) (arr : Array) (log out₀ : List ℕ) (m₀ : Machine) (
       → Going g arr log out₀ m₀ w out (machine (w .state) cells cache counts)
       → (w .at ≤ w₁ .at) × Going g arr log out₀ m₀ w₁ out₁ (machine (w₁ .state) cells cache₁ counts)
   going-along cells cache counts out w₁ cache₁ out₁ a h =
-      (rw (a .walk) (omega arith), going-at (a .walk) refl (going-shifts refl h (a .done cells counts)))
+      (rw (a .walk) (omega arith), going-at (a .walk) refl (going-shifts refl h (a .done (machine (w .state) cells cache counts))))

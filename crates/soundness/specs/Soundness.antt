@@ -7,7 +7,7 @@ use lib.Dec.{leb, ltb, eqb}
 use Rattle.part.specs.declared.Geometry.{Geometry}
 use Rattle.registers.specs.Registers.{oip, a0Mask, b0Mask, d0Mask}
 use Rattle.registers.specs.declared.Registers.{Registers}
-use Rattle.transfer.specs.Transfer.{is}
+use Rattle.transfer.specs.Transfer.{noByte, is}
 use Rattle.transfer.specs.declared.Transfer.{Transfer}
 use Rattle.array.specs.Jobs.{lengthOf, inside, Going}
 use Rattle.array.specs.declared.Job.{Job}
@@ -37,7 +37,7 @@ WorkSound g (Busy j i) = Going g j i
 
 -- the instruction is 0Fh, 9Fh or FFh, or is being ignored
 abbrev pub letIn : Transfer → Bool
-letIn t = is t 0x0F || is t 0x9F || is t 0xFF || is t 256
+letIn t = is t 0x0F || is t 0x9F || is t 0xFF || is t noByte
 
 -- ---- the same as tests
 

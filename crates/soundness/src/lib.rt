@@ -104,5 +104,5 @@ pub fn calm(c: u8, t: Transfer) -> bool
     if t.is(0xFF) {
         return true;
     }
-    t.is(256)
+    t.is(transfer::NO_BYTE)
 }

@@ -12,7 +12,7 @@ use Rattle.part.specs.declared.Geometry.{Geometry}
 use Rattle.part.proofs.Choice.{T-true, true-T, and-l, and-r}
 use Rattle.transfer.specs.Transfer.{byteOf, is, next, heard, shiftedIn, cacheByte, cached}
 use Rattle.transfer.specs.declared.Bus.{Bus}
-use Rattle.device.specs.Machine.{Machine, machine}
+use Rattle.device.specs.Machine.{Machine, onCache}
 use Rattle.device.specs.Instructions.{answer, shifts}
 use Rattle.device.specs.declared.State.{State}
 use Rattle.stream.specs.Streams.{Past, loading, streams, atColumn, ShiftAt, byteIn, Shifted, none, more, Follows, noShift, Streamed}
@@ -43,7 +43,7 @@ module _ (x : Bus) (h : streams x ≡ true) where
 abbrev pub Moves : State → Column → Column → List ℕ → List ℕ → ℕ → ℕ → Type 0
 Moves s c c′ cache cache′ b x =
     (g : Geometry)
-    → ((cells counts : List ℕ) → shifts g b (machine (atColumn c s) cells cache counts) ≡ machine (atColumn c′ s) cells cache′ counts)
+    → ((m : Machine) → shifts g b (onCache (atColumn c s) cache m) ≡ onCache (atColumn c′ s) cache′ m)
     × (answer g (atColumn c s) cache ≡ x)
 
 -- one of two tests holds
@@ -57,21 +57,21 @@ module _ (s : State) (p : Past (s .bus)) (c : Column) (cache : List ℕ) (b : �
   unfolding shifts shiftedIn cached answer
   read-moves q g =
       let e : byteOf (s .bus .transfer .instruction) ≡ 0x03 = eqb-true _ _ q in
-      ((λ cells counts. rw (p .listens, p .counted, e)), rw (p .listens, p .counted, e))
+      ((λ m. rw (p .listens, p .counted, e)), rw (p .listens, p .counted, e))
 
   -- 02h
   load-2 : is (s .bus .transfer) 0x02 ≡ true → Moves s c (next c) cache (set cache (c .0) b) b 0xFF
   unfolding shifts shiftedIn cached answer
   load-2 q g =
       let e : byteOf (s .bus .transfer .instruction) ≡ 0x02 = eqb-true _ _ q in
-      ((λ cells counts. rw (p .listens, p .counted, e)), rw (p .listens, p .counted, e))
+      ((λ m. rw (p .listens, p .counted, e)), rw (p .listens, p .counted, e))
 
   -- 84h
   load-84 : is (s .bus .transfer) 0x84 ≡ true → Moves s c (next c) cache (set cache (c .0) b) b 0xFF
   unfolding shifts shiftedIn cached answer
   load-84 q g =
       let e : byteOf (s .bus .transfer .instruction) ≡ 0x84 = eqb-true _ _ q in
-      ((λ cells counts. rw (p .listens, p .counted, e)), rw (p .listens, p .counted, e))
+      ((λ m. rw (p .listens, p .counted, e)), rw (p .listens, p .counted, e))
 
   -- 02h and 84h store at the column
   pub load-moves : loading (s .bus .transfer) ≡ true → Moves s c (next c) cache (set cache (c .0) b) b 0xFF
@@ -99,30 +99,30 @@ pub record Streaming (s : State) (log : List ℕ) (at written n : ℕ) (cache₀
   pub below : i ≤ n
   pub cache-long : length cache ≡ length cache₀
   pub out-keeps : length out ≡ length out₀
-  pub done : (g : Geometry) (cells counts : List ℕ) → Shifted g log at written (machine s cells cache₀ counts) out₀ i (machine (atColumn c s) cells cache counts) out
+  pub done : (g : Geometry) (m : Machine) → Shifted g log at written (onCache s cache₀ m) out₀ i (onCache (atColumn c s) cache m) out
 
 -- before the first shift
 pub before-first : (s : State) (log : List ℕ) (at written n : ℕ) (cache out : List ℕ) → Roomy log at written out n
     → Streaming s log at written n cache out cache out (s .bus .transfer .column) 0
-before-first s log at written n cache out r = record { roomy = r; below = omega arith; cache-long = refl; out-keeps = refl; done = λ g cells counts. none }
+before-first s log at written n cache out r = record { roomy = r; below = omega arith; cache-long = refl; out-keeps = refl; done = λ g m. none }
 
 module _ {s : State} {log : List ℕ} {at written n : ℕ} {cache₀ out₀ cache out : List ℕ} {c : Column} {i : ℕ} where
   -- one shift more
   pub moved : {cache′ : List ℕ} {c′ : Column} {x : ℕ} → Streaming s log at written n cache₀ out₀ cache out c i → i < n → getD log (at + 2 * i) 0 ≡ 2
       → length cache′ ≡ length cache → Moves s c c′ cache cache′ (byteIn log (at + 2 * i)) x
       → Streaming s log at written n cache₀ out₀ cache′ (set out (written + i) x) c′ (i + 1)
-  moved {cache′} {c′} {x} h l k e m =
+  moved {cache′} {c′} {x} h l k e v =
       record {
         roomy = h .roomy;
         below = omega arith;
         cache-long = e ∙ h .cache-long;
         out-keeps = simp length-set (h .out-keeps);
-        done = λ g cells counts.
+        done = λ g m.
             let a : ShiftAt log (at + 2 * i) = record { inside = omega (arith, h .roomy .inside, h .roomy .most); kind = k } in
             let z : written + i < length out = omega (arith, h .roomy .before, h .roomy .most, h .out-keeps) in
-            subst (λ (y : ℕ). Shifted g log at written (machine s cells cache₀ counts) out₀ (i + 1) (machine (atColumn c′ s) cells cache′ counts) (set out (written + i) y)) (m g .1)
-            (subst (λ (y : Machine). Shifted g log at written (machine s cells cache₀ counts) out₀ (i + 1) y (set out (written + i) (answer g (atColumn c s) cache))) (m g .0 cells counts)
-            (more (h .done g cells counts) a z));
+            subst (λ (y : ℕ). Shifted g log at written (onCache s cache₀ m) out₀ (i + 1) (onCache (atColumn c′ s) cache′ m) (set out (written + i) y)) (v g .1)
+            (subst (λ (y : Machine). Shifted g log at written (onCache s cache₀ m) out₀ (i + 1) y (set out (written + i) (answer g (atColumn c s) cache))) (v g .0 m)
+            (more (h .done g m) a z));
       }
 
 -- ---- all of them
@@ -130,7 +130,7 @@ module _ {s : State} {log : List ℕ} {at written n : ℕ} {cache₀ out₀ cach
 module _ (g : Geometry) (s : State) (log : List ℕ) (at written : ℕ) (cache out : List ℕ) where
   -- none where none can follow
   no-shifts : (streams (s .bus) ≡ true → Follows log at written out 0 → ⊥) → Streamed g s log at written cache out (noShift s) cache out
-  no-shifts a = record { done = λ cells counts. none; all = a; still = λ e. refl }
+  no-shifts a = record { done = λ m. none; all = a; still = λ e. refl }
 
   not-both : streams (s .bus) ≡ false → streams (s .bus) ≡ true → ⊥
   not-both e f = subst T (sym f ∙ e) tt
@@ -146,6 +146,6 @@ module _ (g : Geometry) (s : State) (log : List ℕ) (at written : ℕ) (cache o
 
   -- those of a read or of a load
   pub some-shifts : (r : Stream) (cache₁ out₁ : List ℕ) → streams (s .bus) ≡ true
-      → ((cells counts : List ℕ) → Shifted g log at written (machine s cells cache counts) out (r .count) (machine (r .state) cells cache₁ counts) out₁)
+      → ((m : Machine) → Shifted g log at written (onCache s cache m) out (r .count) (onCache (r .state) cache₁ m) out₁)
       × (Follows log at written out (r .count) → ⊥) → Streamed g s log at written cache out r cache₁ out₁
   some-shifts r cache₁ out₁ e h = record { done = h .0; all = λ f. h .1; still = λ f. absurd (not-both f e) }

@@ -10,7 +10,7 @@ use Rattle.part.specs.declared.Geometry.{Geometry}
 use Rattle.transfer.specs.Transfer.{is, withTransfer, heard}
 use Rattle.transfer.specs.declared.Bus.{Bus}
 use Rattle.transfer.specs.declared.Transfer.{Transfer}
-use Rattle.device.specs.Machine.{Machine, machine, busIn}
+use Rattle.device.specs.Machine.{Machine, onCache, busIn}
 use Rattle.device.specs.Instructions.{answer, shifts}
 use Rattle.device.specs.declared.State.{State}
 use Rattle.stream.specs.declared.Stream.{Stream}
@@ -65,8 +65,8 @@ Follows log at written out k = ShiftAt log (at + 2 * k) × (written + k < length
 abbrev pub noShift : State → Stream
 noShift s = record { state = s; count = 0 }
 
--- what a stream does from a state on: shifts, whatever the cells and the page counts hold; all that follow where the bus is in a stream, and none where it is not
+-- what a stream does from a state on: shifts, whatever else the machine holds; all that follow where the bus is in a stream, and none where it is not
 pub record Streamed (g : Geometry) (s : State) (log : List ℕ) (at written : ℕ) (cache out : List ℕ) (r : Stream) (cache₁ out₁ : List ℕ) : Type 0 where
-  pub done : (cells counts : List ℕ) → Shifted g log at written (machine s cells cache counts) out (r .count) (machine (r .state) cells cache₁ counts) out₁
+  pub done : (m : Machine) → Shifted g log at written (onCache s cache m) out (r .count) (onCache (r .state) cache₁ m) out₁
   pub all : streams (s .bus) ≡ true → Follows log at written out (r .count) → ⊥
   pub still : streams (s .bus) ≡ false → r .count ≡ 0

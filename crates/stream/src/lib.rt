@@ -1,11 +1,10 @@
 // A stream of shifts: once the fifth byte of a transfer has come, only the next column moves on, and data is read or loaded. Document 01, "Instructions".
 ghost use mathlib.Core.Bool.{true};
-ghost use mathlib.Core.List.{List};
 ghost use mathlib.Core.Path.{_≡_};
-ghost use Prim.Native.Nat.{ℕ, _/_, _≤_, min};
+ghost use Prim.Native.Nat.{_/_, _≤_, min};
 ghost use lib.ListN.{length};
 ghost use Rattle.transfer.specs.Transfer.{is};
-ghost use Rattle.device.specs.Machine.{machine};
+ghost use Rattle.device.specs.Machine.{Machine, onCache};
 ghost use Rattle.stream.specs.Streams.{Past, loading, streams, atColumn, Shifted, Follows, noShift, Streamed};
 use device::State;
 use part::Column;
@@ -76,7 +75,7 @@ fn reads(
     written: usize,
 ) -> Stream
     requires { ⌜ (Past (s .bus)) × (is (s .bus .transfer) 0x03 ≡ true) × (at ≤ length (now log)) × (written ≤ length (now out)) ⌝ }
-    ensures { λ r. ⌜ (((cells counts : List ℕ) → Shifted g (now (log .entry)) at written (machine s cells (now (cache .entry)) counts) (now (out .entry)) (r .count) (machine (r .state) cells (now (cache .entry)) counts) (now (out .exit)))) × (Follows (now (log .entry)) at written (now (out .entry)) (r .count) → ⊥) ⌝ }
+    ensures { λ r. ⌜ (((m : Machine) → Shifted g (now (log .entry)) at written (onCache s (now (cache .entry)) m) (now (out .entry)) (r .count) (onCache (r .state) (now (cache .entry)) m) (now (out .exit)))) × (Follows (now (log .entry)) at written (now (out .entry)) (r .count) → ⊥) ⌝ }
 {
     let n = most(log.len() - at, out.len() - written);
     let mut c = s.bus.transfer.column;
@@ -109,7 +108,7 @@ fn loads(
     written: usize,
 ) -> Stream
     requires { ⌜ (Past (s .bus)) × (loading (s .bus .transfer) ≡ true) × (at ≤ length (now log)) × (written ≤ length (now out)) ⌝ }
-    ensures { λ r. ⌜ (((cells counts : List ℕ) → Shifted g (now (log .entry)) at written (machine s cells (now (cache .entry)) counts) (now (out .entry)) (r .count) (machine (r .state) cells (now (cache .exit)) counts) (now (out .exit)))) × (Follows (now (log .entry)) at written (now (out .entry)) (r .count) → ⊥) ⌝ }
+    ensures { λ r. ⌜ (((m : Machine) → Shifted g (now (log .entry)) at written (onCache s (now (cache .entry)) m) (now (out .entry)) (r .count) (onCache (r .state) (now (cache .exit)) m) (now (out .exit)))) × (Follows (now (log .entry)) at written (now (out .entry)) (r .count) → ⊥) ⌝ }
 {
     let n = most(log.len() - at, out.len() - written);
     let mut c = s.bus.transfer.column;

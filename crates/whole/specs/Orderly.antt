@@ -10,7 +10,7 @@ use Rattle.array.specs.declared.Job.the-variants.{Read, Program, Erase}
 use Rattle.array.specs.declared.Work.{Work}
 use Rattle.array.specs.declared.Work.the-variants.{Idle, Busy}
 use Rattle.registers.specs.declared.Registers.{Registers}
-use Rattle.transfer.specs.Transfer.{byteOf, instructionOf, open?, is, full, heard, bodyHeard, withPins}
+use Rattle.transfer.specs.Transfer.{noByte, byteOf, instructionOf, open?, is, full, heard, bodyHeard, withPins}
 use Rattle.transfer.specs.declared.Bus.{Bus}
 use Rattle.transfer.specs.declared.Transfer.{Transfer}
 use Rattle.device.specs.Machine.{Machine, busIn}
@@ -35,7 +35,7 @@ first x = heard x && eqb (x .transfer .count) 0
 
 -- no instruction has this byte
 abbrev pub unknown : ℕ → Bool
-unknown b = eqb (byteOf (instructionOf b)) 256
+unknown b = eqb (byteOf (instructionOf b)) noByte
 
 -- chip select, rising now, lets a reset take effect
 abbrev pub resetting : Transfer → Bool
@@ -75,7 +75,7 @@ upRegisters r = eqb (r .a0) 0x38 && eqb (r .b0) 0x10 && eqb (r .c0) 0x01 && eqb 
 
 abbrev pub upTransfer : Transfer → Bool
 upTransfer t =
-    not (t .selected) && eqb (t .count) 0 && is t 256 && eqb (t .first) 0 && eqb (t .second) 0 && eqb (t .third) 0 && eqb (t .column .0) 0
+    not (t .selected) && eqb (t .count) 0 && is t noByte && eqb (t .first) 0 && eqb (t .second) 0 && eqb (t .third) 0 && eqb (t .column .0) 0
 
 -- the state is the power-up state, WP# at either level
 abbrev pub atPowerUp : State → Bool

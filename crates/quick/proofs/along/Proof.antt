@@ -2,6 +2,7 @@
 use mathlib.Core.List.{[]}
 use mathlib.Core.Path.{refl}
 use native.Mathlib.Omega.{arith}
+use Rattle.device.specs.Machine.{machine}
 use Rattle.quick.proofs.Behind.{shifted-within}
 use borrow.Author.Needs.{needs}
 use Rattle.quick.proofs.along.Statement.{statement}
@@ -11,16 +12,16 @@ shifts-requires : tie.Need-shifts-requires
 shifts-requires c κs = search needs
 
 mul-t13 : tie.Need-mul-t13
-mul-t13 c = let h = shifted-within (c .before .before .before .before .before .before .before .before .before .before .before .before .before .pre .inside) (c .before .before .before .before .before .before .before .before .before .before .before .before .before .pre .roomy) (c .before .before .before .before .before .before .shifts .ensures .done [] []) in omega (arith, h .0, h .1, c .before .before .before .before .before .before .before .before .before .before .before .before .before .good)
+mul-t13 c = let h = shifted-within (c .before .before .before .before .before .before .before .before .before .before .before .before .before .pre .inside) (c .before .before .before .before .before .before .before .before .before .before .before .before .before .pre .roomy) (c .before .before .before .before .before .before .shifts .ensures .done (machine (c .before .before .before .before .before .before .before .before .before .before .before .before .before .args .w .state) [] [] [])) in omega (arith, h .0, h .1, c .before .before .before .before .before .before .before .before .before .before .before .before .before .good)
 
 add-t14 : tie.Need-add-t14
-add-t14 c = let h = shifted-within (c .before .before .before .before .before .before .before .before .before .before .before .before .before .before .pre .inside) (c .before .before .before .before .before .before .before .before .before .before .before .before .before .before .pre .roomy) (c .before .before .before .before .before .before .before .shifts .ensures .done [] []) in omega (arith, h .0, h .1, c .before .before .before .before .before .before .before .before .before .before .before .before .before .before .good)
+add-t14 c = let h = shifted-within (c .before .before .before .before .before .before .before .before .before .before .before .before .before .before .pre .inside) (c .before .before .before .before .before .before .before .before .before .before .before .before .before .before .pre .roomy) (c .before .before .before .before .before .before .before .shifts .ensures .done (machine (c .before .before .before .before .before .before .before .before .before .before .before .before .before .before .args .w .state) [] [] [])) in omega (arith, h .0, h .1, c .before .before .before .before .before .before .before .before .before .before .before .before .before .before .good)
 
 add-t15 : tie.Need-add-t15
-add-t15 c = let h = shifted-within (c .before .before .before .before .before .before .before .before .before .before .before .before .before .before .before .before .pre .inside) (c .before .before .before .before .before .before .before .before .before .before .before .before .before .before .before .before .pre .roomy) (c .before .before .before .before .before .before .before .before .before .shifts .ensures .done [] []) in omega (arith, h .0, h .1, c .before .before .before .before .before .before .before .before .before .before .before .before .before .before .before .before .pre .pace, c .before .before .before .before .before .before .before .before .before .before .before .before .before .before .before .before .good)
+add-t15 c = let h = shifted-within (c .before .before .before .before .before .before .before .before .before .before .before .before .before .before .before .before .pre .inside) (c .before .before .before .before .before .before .before .before .before .before .before .before .before .before .before .before .pre .roomy) (c .before .before .before .before .before .before .before .before .before .shifts .ensures .done (machine (c .before .before .before .before .before .before .before .before .before .before .before .before .before .before .before .before .args .w .state) [] [] [])) in omega (arith, h .0, h .1, c .before .before .before .before .before .before .before .before .before .before .before .before .before .before .before .before .pre .pace, c .before .before .before .before .before .before .before .before .before .before .before .before .before .before .before .before .good)
 
 add-t16 : tie.Need-add-t16
-add-t16 c = let h = shifted-within (c .before .before .before .before .before .before .before .before .before .before .before .before .before .before .before .before .before .before .pre .inside) (c .before .before .before .before .before .before .before .before .before .before .before .before .before .before .before .before .before .before .pre .roomy) (c .before .before .before .before .before .before .before .before .before .before .before .shifts .ensures .done [] []) in omega (arith, h .0, h .1, c .before .before .before .before .before .before .before .before .before .before .before .before .before .before .before .before .before .before .good)
+add-t16 c = let h = shifted-within (c .before .before .before .before .before .before .before .before .before .before .before .before .before .before .before .before .before .before .pre .inside) (c .before .before .before .before .before .before .before .before .before .before .before .before .before .before .before .before .before .before .pre .roomy) (c .before .before .before .before .before .before .before .before .before .before .before .shifts .ensures .done (machine (c .before .before .before .before .before .before .before .before .before .before .before .before .before .before .before .before .before .before .args .w .state) [] [] [])) in omega (arith, h .0, h .1, c .before .before .before .before .before .before .before .before .before .before .before .before .before .before .before .before .before .before .good)
 
 same-length : tie.Need-same-length
 same-length c = c .before .before .before .before .before .before .before .before .before .before .cache .given

@@ -46,7 +46,7 @@ same-length-2 : tie.Need-same-length-2 Inv-loop μ-loop
 same-length-2 c = c .before .before .before .before .loop .inv .out-keeps
 
 returns : tie.Need-returns Inv-loop μ-loop
-returns c = ((λ cells counts. rw (c .at-column .ensures) (c .before .before .before .before .loop .inv .done (c .before .before .before .before .before .before .before .before .before .before .args .g) cells counts)), no-shift (now (c .before .before .before .before .before .before .before .before .before .before .args .log)) (c .before .before .before .before .before .before .before .before .before .before .args .at) (c .before .before .before .before .before .before .before .before .before .before .args .written) (now (c .before .before .before .before .before .before .before .before .before .before .args .out)) (c .before .before .before .before .loop .i) _ refl (λ e. omega (arith, e, c .before .if1 .taken)))
+returns c = ((λ m. rw (c .at-column .ensures) (c .before .before .before .before .loop .inv .done (c .before .before .before .before .before .before .before .before .before .before .args .g) m)), no-shift (now (c .before .before .before .before .before .before .before .before .before .before .args .log)) (c .before .before .before .before .before .before .before .before .before .before .args .at) (c .before .before .before .before .before .before .before .before .before .before .args .written) (now (c .before .before .before .before .before .before .before .before .before .before .args .out)) (c .before .before .before .before .loop .i) _ refl (λ e. omega (arith, e, c .before .if1 .taken)))
 
 add-store-at : tie.Need-add-store-at Inv-loop μ-loop
 add-store-at c = omega (arith, c .before .before .before .before .loop .inv .roomy .inside, c .before .before .before .before .loop .inv .roomy .before, c .before .before .before .before .loop .inv .roomy .most, c .before .before .before .before .loop .inv .out-keeps)
@@ -88,7 +88,7 @@ same-length-4 : tie.Need-same-length-4 Inv-loop μ-loop
 same-length-4 c = c .before .before .loop .inv .out-keeps
 
 returns-2 : tie.Need-returns-2 Inv-loop μ-loop
-returns-2 c = ((λ cells counts. rw (c .at-column2 .ensures) (c .before .before .loop .inv .done (c .before .before .before .before .before .before .before .before .args .g) cells counts)), none-left _ _ _ _ _ _ (c .before .before .loop .inv .roomy) (omega (arith, c .before .loop-test .left)))
+returns-2 c = ((λ m. rw (c .at-column2 .ensures) (c .before .before .loop .inv .done (c .before .before .before .before .before .before .before .before .args .g) m)), none-left _ _ _ _ _ _ (c .before .before .loop .inv .roomy) (omega (arith, c .before .loop-test .left)))
 
 pub loads-spec : {M : Type 1} → statement M
 loads-spec =

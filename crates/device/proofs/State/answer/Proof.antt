@@ -48,12 +48,12 @@ returns-7 : tie.Need-returns-7
 unfolding answer
 returns-7 c = rw (← (c .before .before .before .before .before .before .before .before .before .body-heard .ensures), not-false (c .before .before .before .before .before .before .before .before .before .body-heard .result) (c .before .before .before .before .before .before .before .before .if1 .left), ← (c .before .before .before .before .before .before .is .ensures), c .before .before .before .before .before .if2 .left, ← (c .before .before .before .before .is2 .ensures), c .before .before .before .if4 .left, ← (c .before .before .is3 .ensures), c .before .if7 .taken, lt-leb _ _ (c .if8 .taken))
 
-cache-byte-requires : tie.Need-cache-byte-requires
-cache-byte-requires c κs = search needs
+byte-at-requires : tie.Need-byte-at-requires
+byte-at-requires c κs = search needs
 
 returns-8 : tie.Need-returns-8
 unfolding answer
-returns-8 c = rw (c .cache-byte .ensures, ← (c .before .before .before .before .before .before .before .before .before .before .body-heard .ensures), not-false (c .before .before .before .before .before .before .before .before .before .before .body-heard .result) (c .before .before .before .before .before .before .before .before .before .if1 .left), ← (c .before .before .before .before .before .before .before .is .ensures), c .before .before .before .before .before .before .if2 .left, ← (c .before .before .before .before .before .is2 .ensures), c .before .before .before .before .if4 .left, ← (c .before .before .before .is3 .ensures), c .before .before .if7 .taken, le-leb _ _ (c .before .if8 .left))
+returns-8 c = rw (c .byte-at .ensures, ← (c .before .before .before .before .before .before .before .before .before .before .before .body-heard .ensures), not-false (c .before .before .before .before .before .before .before .before .before .before .before .body-heard .result) (c .before .before .before .before .before .before .before .before .before .before .if1 .left), ← (c .before .before .before .before .before .before .before .before .is .ensures), c .before .before .before .before .before .before .before .if2 .left, ← (c .before .before .before .before .before .before .is2 .ensures), c .before .before .before .before .before .if4 .left, ← (c .before .before .before .before .is3 .ensures), c .before .before .before .if7 .taken, le-leb _ _ (c .before .before .if8 .left))
 
 returns-9 : tie.Need-returns-9
 unfolding answer
@@ -75,6 +75,6 @@ answer-spec =
     returns-6
     is-requires-3
     returns-7
-    cache-byte-requires
+    byte-at-requires
     returns-8
     returns-9)
