@@ -107,11 +107,11 @@ module _ (g : Geometry) (arr : Array) (log out₀ : List ℕ) (m₀ : Machine) w
         (h .lies ∙ ap (λ (n : ℕ). h .bytes ++ drop n out₀) (sym (h .long))))
         ∙ ap (λ (o : Outcome). shown o out₀) o
 
-    going-ends : (why : Why) → nextOf log (w .at) ≡ Stop why → Seen (refusalOf why)
+    pub going-ends : (why : Why) → nextOf log (w .at) ≡ Stop why → Seen (refusalOf why)
     unfolding nextOf
     going-ends why p = stop-with (refusalOf why) (left-ends g arr (length out₀ - w .written) log (w .at) m why (stop-front (w .at) (front (drop (w .at) log)) why p))
 
-    going-full : (e : Record) (n : ℕ) → nextOf log (w .at) ≡ Found e n → length out₀ - w .written < takes e → Seen NoRoom
+    pub going-full : (e : Record) (n : ℕ) → nextOf log (w .at) ≡ Found e n → length out₀ - w .written < takes e → Seen NoRoom
     unfolding nextOf
     going-full e n p k =
         let f = found-front (w .at) (front (drop (w .at) log)) e n p in

@@ -1,5 +1,3 @@
 pub mod Judging
-pub mod Turns
-pub mod Checks
 pub mod OneAnswer
 pub mod AboutJudge

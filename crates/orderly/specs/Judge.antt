@@ -1,10 +1,13 @@
 -- A log judged: what a run of it returns and leaves, and whether the suppositions of demand 3 were met.
-use mathlib.Core.Bool.{Bool, _&&_}
+use mathlib.Core.Bool.{Bool, true, _&&_}
 use mathlib.Core.List.{List}
 use Prim.Native.Nat.{ℕ}
 use Rattle.model.specs.Runs.{End, ended}
+use Rattle.buslog.specs.declared.Next.{Next}
+use Rattle.buslog.specs.declared.Next.the-variants.{Found, Stop}
+use Rattle.device.specs.declared.State.{State}
 use Rattle.walk.specs.declared.Answer.{Answer}
-use Rattle.whole.specs.Orderly.{idle}
+use Rattle.whole.specs.Orderly.{idle, allowed}
 use Rattle.whole.specs.Demand.{Given, endOf, supposed}
 use Rattle.orderly.specs.declared.Judged.{Judged}
 
@@ -24,3 +27,8 @@ judgementOf i = record { end = endOf i; orderly = supposed i (endOf i) }
 -- an answer judged: it must be idle as well
 abbrev pub closed : Answer → Bool → Judged
 closed a ok = record { answer = a; orderly = ok && idle (a .state) }
+
+-- what stands next in the log may come: a record that is allowed, or none
+abbrev pub welcome : State → Next → Bool
+welcome s (Found e place) = allowed s e
+welcome s (Stop why) = true

@@ -2,22 +2,23 @@
 ghost use mathlib.Core.Bool.{_&&_, _||_};
 ghost use mathlib.Core.Path.{_≡_};
 ghost use Rattle.part.specs.Part.{Sound};
-ghost use Rattle.transfer.specs.Transfer.{open?};
 ghost use Rattle.device.specs.Machine.{machine};
 ghost use Rattle.kept.specs.Kept.{SoundMachine};
 ghost use Rattle.whole.specs.Orderly.{idle, first, unknown, resetting, allowed, firstRead, upRegisters, upTransfer, atPowerUp, starts};
 ghost use Rattle.whole.specs.Demand.{given};
-ghost use Rattle.orderly.specs.Judge.{judged, judgementOf, closed};
+ghost use Rattle.orderly.specs.Judge.{judged, judgementOf, closed, welcome};
 use array::Job;
 use array::Work;
 use buslog::Next;
 use buslog::Record;
 use device::State;
-use walk::Answer;
 use part::Geometry;
 use registers::Registers;
 use transfer::Bus;
 use transfer::Transfer;
+use walk::Answer;
+use walk::Walk;
+use walk::Went;
 
 // A log judged: the answer of its run, and whether the suppositions of demand 3 were met.
 pub struct Judged {
@@ -55,17 +56,7 @@ fn first(x: Bus) -> bool
     ensures { λ r. ⌜ r ≡ first x ⌝ }
 {
     let t = x.transfer;
-    both(t.selected, t.count == 0)
-}
-
-// Whether a busy array lets in the instruction of this byte.
-fn let_in(b: u8) -> bool
-    ensures { λ r. ⌜ r ≡ open? b ⌝ }
-{
-    match b {
-        0x0F | 0x9F | 0xFF => true,
-        _ => false,
-    }
+    both(x.heard(), t.count == 0)
 }
 
 // Whether no instruction has this byte.
@@ -94,7 +85,7 @@ pub fn allowed(s: State, e: Record) -> bool
     let t = x.transfer;
     let rests = idle(s);
     match e {
-        Record::Shift(b) => either(either(either(rests, !first(x)), let_in(b)), unknown(b)),
+        Record::Shift(b) => either(either(either(rests, !first(x)), transfer::let_in(b)), unknown(b)),
         Record::Deselect => either(rests, !resetting(t)),
         Record::Power => rests,
         Record::Select => true,
@@ -165,6 +156,16 @@ fn closed(answer: Answer, ok: bool) -> Judged
     }
 }
 
+// Whether demand 3 lets what stands next in the log come in this state; where no record stands, there is nothing to ask.
+fn welcome(s: State, next: Next) -> bool
+    ensures { λ r. ⌜ r ≡ welcome s next ⌝ }
+{
+    match next {
+        Next::Found(e, _) => allowed(s, e),
+        Next::Stop(_) => true,
+    }
+}
+
 // The records of a log, one after another, each judged as it comes.
 fn go(
     g: Geometry,
@@ -180,31 +181,18 @@ fn go(
         ⌜ judged r (now (cells .exit)) (now (cache .exit)) (now (counts .exit)) (now (out .exit))
         ≡ judgementOf (given g state (now (log .entry)) (now (cells .entry)) (now (cache .entry)) (now (counts .entry)) (now (out .entry))) ⌝ }
 {
-    let begun = starts(state);
-    let mut s = state;
-    let mut at = 0;
-    let mut records = 0;
-    let mut written = 0;
-    let mut ok = begun;
+    let mut w = Walk::start(state);
+    let mut ok = starts(state);
     loop {
-        match buslog::next_at(log, at) {
-            Next::Stop(_) => {
-                let a = model::run(g, s, &log[at..], cells, cache, counts, &mut out[written..]);
-                let r = a.refusal;
-                return closed(model::so_far(r, s, records, at, written), ok);
+        let s = w.state;
+        let so = both(ok, welcome(s, buslog::next_at(log, w.at)));
+        match walk::onward(g, w, log, cells, cache, counts, out) {
+            Went::On(next) => {
+                w = next;
+                ok = so;
             }
-            Next::Found(e, place) => {
-                let next = both(ok, allowed(s, e));
-                let a = model::step(g, s, e, cells, cache, counts, &mut out[written..]);
-                let r = a.refusal;
-                if refusals::number_of(r) != 0 {
-                    return closed(model::so_far(r, s, records, at, written), ok);
-                }
-                ok = next;
-                s = a.state;
-                at = place;
-                records += 1;
-                written += a.written;
+            Went::Off(r) => {
+                return closed(w.so_far(r), ok);
             }
         }
     }
@@ -224,10 +212,9 @@ pub fn judge(
         ⌜ judged r (now (cells .exit)) (now (cache .exit)) (now (counts .exit)) (now (out .exit))
         ≡ judgementOf (given g state (now (log .entry)) (now (cells .entry)) (now (cache .entry)) (now (counts .entry)) (now (out .entry))) ⌝ }
 {
-    let a = model::run(g, state, &log[0..0], cells, cache, counts, out);
-    let r = a.refusal;
-    if refusals::number_of(r) != 0 {
-        return closed(a, starts(state));
+    let k = refusals::check(g, state, cells.len(), cache.len(), counts.len());
+    if !refusals::passes(k) {
+        return closed(Walk::start(state).so_far(k), starts(state));
     }
     go(g, state, log, cells, cache, counts, out)
 }

@@ -3,11 +3,14 @@ use borrow.Author.Needs.{needs}
 use Rattle.orderly.proofs.first.Statement.{statement}
 use Rattle.orderly.proofs.first.Tie as tie
 
+heard-requires : tie.Need-heard-requires
+heard-requires c κs = search needs
+
 both-requires : tie.Need-both-requires
 both-requires c κs = search needs
 
 returns : tie.Need-returns
-returns c = c .both .ensures
+returns c = rw (c .both .ensures, c .before .before .heard .ensures)
 
 pub first-spec : {M : Type 1} → statement M
-first-spec = tie.close (tie.spec both-requires returns)
+first-spec = tie.close (tie.spec heard-requires both-requires returns)
