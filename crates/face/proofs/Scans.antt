@@ -1,13 +1,12 @@
 -- The table of texts and a row of it, scanned byte by byte.
 use mathlib.Core.Bool.{Bool, true, false, not, _&&_}
-use mathlib.Core.List.{List, [], _∷_, _++_, append-nil}
-use mathlib.Core.Path.{_≡_, refl, sym, ap, _∙_}
+use mathlib.Core.List.{List, _++_, append-nil}
+use mathlib.Core.Path.{_≡_}
 use native.Mathlib.Numerals.{add-one}
 use Prim.Native.Nat.{ℕ, suc, _+_, _≤_, _<_}
 use lib.Dec.{eqb}
 use lib.ListN.{length, take, drop, getD, drop-of-length-le}
 use lib.Seq.{take-suc, drop-cons, append-snoc}
-use Rattle.part.proofs.Choice.{cond-yes, cond-no}
 use Rattle.face.specs.Text.{upToNul, behind}
 
 module _ (l other : List ℕ) (n i : ℕ) (inside : Bool) where

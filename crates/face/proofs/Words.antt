@@ -2,7 +2,7 @@
 use mathlib.Core.Bool.{Bool, true, false, not, _&&_}
 use mathlib.Core.List.{List, [], _∷_, _++_}
 use mathlib.Core.Path.{_≡_, refl, ap, _∙_}
-use Prim.Native.Nat.{ℕ, _<_}
+use Prim.Native.Nat.{ℕ}
 use Prim.Native.String.{String}
 use lib.Dec.{T, eqb, ltb}
 use lib.ListN.{length}
@@ -74,6 +74,7 @@ found (m ∷ ms) n other t h =
     (λ e. up-to (bytes (m .words)) (rowsOf ms) p)
     (λ e. ap upToNul (past (bytes (m .words)) (rowsOf ms) n other p) ∙ found ms n other (and-r (right (m .words)) (every ms) t) h)
 
+-- each number finds its words in the table
 pub said : (n : ℕ) → upToNul (behind true n table table) ≡ textOf n
 unfolding table bytes plain
 said n = ap upToNul (past (bytes unmeant) (rowsOf meanings) n table tt) ∙ found meanings n table all-right (up-to (bytes unmeant) (rowsOf meanings) tt)

@@ -21,7 +21,6 @@ use Rattle.model.specs.Runs.{End, runOf, shown}
 use Rattle.model.specs.declared.Answer.{Answer}
 use Rattle.whole.specs.Demand.{given}
 use Rattle.orderly.specs.Judge.{Judgement, judgementOf}
-use Rattle.orderly.specs.declared.Judged.{Judged}
 
 -- ---- what the caller sees
 

@@ -1,4 +1,5 @@
 -- The state that numbers stand for: the instruction, the operation, and then the flags.
+use native.Mathlib.Omega.{arith}
 use borrow.Author.Needs.{needs}
 use borrow.Author.Tests.{le-leb, lt-leb}
 use Rattle.face.specs.Face.{stateOf}
@@ -19,11 +20,11 @@ enum-known-w c = search needs
 
 returns : tie.Need-returns
 unfolding stateOf
-returns c = rw (← (c .before .before .before .before .before .before .before .before .before .instruction-at .ensures), c .before .before .before .before .before .before .before .i .given .1, ← (c .before .before .before .before .before .work-at .ensures), c .before .before .before .w .given .1, lt-leb _ _ (c .if1 .taken))
+returns c = rw (← (c .before .before .before .before .before .before .before .before .before .instruction-at .ensures), c .before .before .before .before .before .before .before .i .given .1, ← (c .before .before .before .before .before .work-at .ensures), c .before .before .before .w .given .1, lt-leb (c .before .before .before .before .before .before .before .before .before .before .args .c .wp) 1 (omega arith))
 
 returns-2 : tie.Need-returns-2
 unfolding stateOf
-returns-2 c = rw (← (c .before .before .before .before .before .before .before .before .before .before .before .instruction-at .ensures), c .before .before .before .before .before .before .before .before .before .i .given .1, ← (c .before .before .before .before .before .before .before .work-at .ensures), c .before .before .before .before .before .w .given .1, le-leb _ _ (c .before .before .if1 .left), lt-leb _ _ (c .if2 .taken))
+returns-2 c = rw (← (c .before .before .before .before .before .before .before .before .before .before .before .instruction-at .ensures), c .before .before .before .before .before .before .before .before .before .i .given .1, ← (c .before .before .before .before .before .before .before .work-at .ensures), c .before .before .before .before .before .w .given .1, le-leb (c .before .before .before .before .before .before .before .before .before .before .before .before .args .c .wp) 1 (omega arith), lt-leb (c .before .before .before .before .before .before .before .before .before .before .before .before .args .c .selected) 1 (omega arith))
 
 state-as-requires : tie.Need-state-as-requires
 state-as-requires c κs = search needs
@@ -36,7 +37,7 @@ enum-told-2 c = search needs
 
 returns-3 : tie.Need-returns-3
 unfolding stateOf
-returns-3 c = rw (c .state-as .ensures, ← (c .before .before .before .before .before .before .before .before .before .before .before .before .instruction-at .ensures), c .before .before .before .before .before .before .before .before .before .before .i .given .1, ← (c .before .before .before .before .before .before .before .before .work-at .ensures), c .before .before .before .before .before .before .w .given .1, le-leb _ _ (c .before .before .before .if1 .left), le-leb _ _ (c .before .if2 .left))
+returns-3 c = rw (c .state-as .ensures, ← (c .before .before .before .before .before .before .before .before .before .before .before .before .instruction-at .ensures), c .before .before .before .before .before .before .before .before .before .before .i .given .1, ← (c .before .before .before .before .before .before .before .before .work-at .ensures), c .before .before .before .before .before .before .w .given .1, le-leb (c .before .before .before .before .before .before .before .before .before .before .before .before .before .args .c .wp) 1 (omega arith), le-leb (c .before .before .before .before .before .before .before .before .before .before .before .before .before .args .c .selected) 1 (omega arith))
 
 returns-4 : tie.Need-returns-4
 unfolding stateOf

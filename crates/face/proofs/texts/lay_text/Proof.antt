@@ -1,11 +1,11 @@
--- The table has the words of each number.
+-- The bytes of the table are those of the definition, by computation; and in them each number finds its words.
 use mathlib.Core.List.{List}
 use mathlib.Core.Path.{ap, _∙_}
 use Prim.Native.Nat.{ℕ}
+use borrow.Author.Needs.{needs}
 use denote.Ref.{now}
 use Rattle.face.specs.Text.{meanings, bytes, textLaid}
 use Rattle.face.proofs.Words.{rowsOf, table, said}
-use borrow.Author.Needs.{needs}
 use Rattle.face.proofs.texts.lay_text.Statement.{statement}
 use Rattle.face.proofs.texts.lay_text.Tie as tie
 
