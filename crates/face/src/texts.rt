@@ -3,7 +3,7 @@ ghost use mathlib.Core.Bool.{true, not, _&&_};
 ghost use mathlib.Core.Path.{_≡_};
 ghost use Prim.Native.Nat.{_≤_};
 ghost use lib.Dec.{eqb};
-ghost use lib.ListN.{length, take, drop};
+ghost use lib.ListN.{length, drop, getD};
 ghost use Rattle.face.specs.Text.{textOf, upToNul, behind, faceLaid, textLaid};
 
 // Whether a byte of a table begins the row of a number.
@@ -37,43 +37,40 @@ fn words_at(table: &[u8], n: u8) -> usize
     0
 }
 
+// The byte at a place of a row, and a NUL past its end.
+fn byte_at(row: &[u8], i: usize) -> u8
+    ensures { λ r. ⌜ r ≡ getD (now (row .entry)) i 0 ⌝ }
+{
+    if i < row.len() { row[i] } else { 0 }
+}
+
 // How many bytes stand before the first NUL.
 fn nul_at(row: &[u8]) -> usize
-    ensures { λ r. ⌜ (r ≤ length (now (row .entry))) × (take r (now (row .entry)) ≡ upToNul (now (row .entry))) ⌝ }
+    ensures { λ r. ⌜ r ≡ length (upToNul (now (row .entry))) ⌝ }
 {
     let mut i = 0;
-    while i < row.len() {
-        if row[i] == 0 {
-            return i;
-        }
+    while byte_at(row, i) != 0 {
         i += 1;
     }
     i
 }
 
-// A text at the front of lent memory, a NUL behind it, and its length; or 0 and not a byte.
-fn lay(text: &[u8], out: &mut [u8]) -> usize
-    ensures { λ r. ⌜ faceLaid r (now (out .exit)) ≡ textLaid (now (text .entry)) (now (out .entry)) ⌝ }
+// The bytes before a NUL at the front of lent memory, a NUL behind them, and their number; or 0 and not a byte.
+fn lay(row: &[u8], out: &mut [u8]) -> usize
+    ensures { λ r. ⌜ faceLaid r (now (out .exit)) ≡ textLaid (upToNul (now (row .entry))) (now (out .entry)) ⌝ }
 {
-    let n = text.len();
-    if out.len() <= n {
+    if out.len() <= nul_at(row) {
         return 0;
     }
     let mut i = 0;
-    while i < n {
-        out[i] = text[i];
+    let mut b = byte_at(row, 0);
+    while b != 0 {
+        out[i] = b;
         i += 1;
+        b = byte_at(row, i);
     }
-    out[n] = 0;
-    n
-}
-
-// The words up to a NUL, laid.
-fn lay_row(row: &[u8], out: &mut [u8]) -> usize
-    ensures { λ r. ⌜ faceLaid r (now (out .exit)) ≡ textLaid (upToNul (now (row .entry))) (now (out .entry)) ⌝ }
-{
-    let e = nul_at(row);
-    lay(&row[..e], out)
+    out[i] = 0;
+    i
 }
 
 // The words of a number in a table, laid.
@@ -81,7 +78,7 @@ fn lay_words(table: &[u8], n: u8, out: &mut [u8]) -> usize
     ensures { λ r. ⌜ faceLaid r (now (out .exit)) ≡ textLaid (upToNul (behind true n (now (table .entry)) (now (table .entry)))) (now (out .entry)) ⌝ }
 {
     let a = words_at(table, n);
-    lay_row(&table[a..], out)
+    lay(&table[a..], out)
 }
 
 // What a number of refusal means. A row of the table: the number, its words and a NUL; the first words are those of any other number.

@@ -1,61 +1,60 @@
--- The text copied byte by byte: up to i it is the text, from i on as it was.
-use mathlib.Core.List.{_++_}
-use mathlib.Core.Path.{_≡_, refl}
-use Prim.Native.Nat.{_≤_, _<_, _-_}
+-- The words are copied until their NUL. The measure is the bytes left of them.
+use Prim.Native.Nat.{_-_}
 use native.Mathlib.Omega.{arith}
-use denote.Ref.{now}
-use lib.ListN.{length, take, drop, length-set}
-use Rattle.face.proofs.Laying.{copied-more, copied-whole, too-short}
+use borrow.Author.Needs.{needs}
+use lib.ListN.{length, length-set}
+use Rattle.face.specs.Text.{upToNul}
+use Rattle.face.proofs.Laying.{too-short, Copying, begun, left, copied, laid-whole}
 use Rattle.face.proofs.texts.lay.Statement.{statement}
 use Rattle.face.proofs.texts.lay.Tie as tie
 
 abbrev Inv-loop : tie.InvT-loop
-Inv-loop text out₀ n i₀ out i = (i ≤ length text) × (length text < length out₀) × (out ≡ take i text ++ drop i out₀) × (length out ≡ length out₀)
+Inv-loop row out₀ i₀ b₀ out i b = Copying row out₀ out i b
 
 abbrev μ-loop : tie.MeasureT-loop
-μ-loop text out₀ n i₀ out i = length text - i
+μ-loop row out₀ i₀ b₀ out i b = length (upToNul row) - i
+
+nul-at-requires : tie.Need-nul-at-requires Inv-loop μ-loop
+nul-at-requires c κs = search needs
 
 returns : tie.Need-returns Inv-loop μ-loop
-returns c = too-short _ _ (c .if1 .taken)
+returns c = too-short _ _ (omega (arith, c .before .nul-at .ensures))
+
+byte-at-requires : tie.Need-byte-at-requires Inv-loop μ-loop
+byte-at-requires c κs = search needs
 
 loop-holds : tie.Need-loop-holds Inv-loop μ-loop
-loop-holds c = (omega arith, omega arith, refl, refl)
-
-shared-slice-read-out : tie.Need-shared-slice-read-out Inv-loop μ-loop
-shared-slice-read-out c = omega arith
+loop-holds c = begun _ _ _ (omega (arith, c .before .before .nul-at .ensures)) (c .byte-at .ensures)
 
 slice-write-out : tie.Need-slice-write-out Inv-loop μ-loop
-slice-write-out c = omega arith
+slice-write-out c =
+    let s = c .before .loop .inv in
+    omega (arith, left s (c .loop-test .taken), s .room, s .long)
 
 add-i : tie.Need-add-i Inv-loop μ-loop
-add-i c = omega arith
+add-i c =
+    let s = c .before .loop .inv in
+    omega (arith, left s (c .loop-test .taken), s .room)
+
+byte-at-requires-2 : tie.Need-byte-at-requires-2 Inv-loop μ-loop
+byte-at-requires-2 c κs = search needs
 
 loop-less : tie.Need-loop-less Inv-loop μ-loop
-loop-less c = omega arith
+loop-less c = omega (arith, left (c .before .before .loop .inv) (c .before .loop-test .taken))
 
 loop-again : tie.Need-loop-again Inv-loop μ-loop
-loop-again c =
-    let l = c .before .before .loop in
-    let t = now (c .before .before .before .before .args .text) in
-    let o = now (c .before .before .before .before .args .out) in
-    let h : l .i < length t = omega arith in
-    let k : l .i < length o = omega arith in
-    (omega arith, l .inv .1, rw (l .inv .2) (copied-more t o (l .i) h k), simp length-set (l .inv .3))
+loop-again c = copied (c .before .before .loop .inv) (c .before .loop-test .taken) _ (c .byte-at2 .ensures)
 
 slice-write-out-2 : tie.Need-slice-write-out-2 Inv-loop μ-loop
-slice-write-out-2 c = omega arith
+slice-write-out-2 c =
+    let s = c .before .loop .inv in
+    omega (arith, s .within, s .room, s .long)
 
 same-length : tie.Need-same-length Inv-loop μ-loop
-same-length c = simp length-set (c .before .loop .inv .3)
+same-length c = simp length-set (c .before .loop .inv .long)
 
 returns-2 : tie.Need-returns-2 Inv-loop μ-loop
-returns-2 c =
-    let l = c .before .loop in
-    let t = now (c .before .before .before .args .text) in
-    let o = now (c .before .before .before .args .out) in
-    let q : l .i ≡ length t = omega arith in
-    let k : length t < length o = omega arith in
-    rw (l .inv .2, q) (copied-whole t o k)
+returns-2 c = laid-whole (c .before .loop .inv) (c .loop-test .left)
 
 pub lay-spec : {M : Type 1} → statement M
 lay-spec =
@@ -63,11 +62,13 @@ lay-spec =
     (tie.spec
     Inv-loop
     μ-loop
+    nul-at-requires
     returns
+    byte-at-requires
     loop-holds
-    shared-slice-read-out
     slice-write-out
     add-i
+    byte-at-requires-2
     loop-less
     loop-again
     slice-write-out-2

@@ -11,17 +11,17 @@ use Rattle.face.proofs.texts.lay_words.Tie as tie
 words-at-requires : tie.Need-words-at-requires
 words-at-requires c κs = search needs
 
-sub-lay-row : tie.Need-sub-lay-row
-sub-lay-row c = search needs
+sub-lay : tie.Need-sub-lay
+sub-lay c = search needs
 
-part-lay-row-start : tie.Need-part-lay-row-start
-part-lay-row-start c = search needs
+part-lay-start : tie.Need-part-lay-start
+part-lay-start c = search needs
 
-part-lay-row-end : tie.Need-part-lay-row-end
-part-lay-row-end c = search needs
+part-lay-end : tie.Need-part-lay-end
+part-lay-end c = search needs
 
-lay-row-requires : tie.Need-lay-row-requires
-lay-row-requires c κs = search needs
+lay-requires : tie.Need-lay-requires
+lay-requires c κs = search needs
 
 same-length : tie.Need-same-length
 same-length c = search needs
@@ -30,16 +30,16 @@ returns : tie.Need-returns
 returns c =
     let a = c .before .before .before .before .before .words-at in
     let table = now (c .before .before .before .before .before .before .before .before .args .table) in
-    rw (take-all (length table - a .result) (drop (a .result) table) (omega (arith, length-drop (a .result) table)), a .ensures .1) at (c .before .before .lay-row .ensures)
+    rw (take-all (length table - a .result) (drop (a .result) table) (omega (arith, length-drop (a .result) table)), a .ensures .1) at (c .before .before .lay .ensures)
 
 pub lay-words-spec : {M : Type 1} → statement M
 lay-words-spec =
     tie.close
     (tie.spec
     words-at-requires
-    sub-lay-row
-    part-lay-row-start
-    part-lay-row-end
-    lay-row-requires
+    sub-lay
+    part-lay-start
+    part-lay-end
+    lay-requires
     same-length
     returns)
