@@ -22,6 +22,10 @@ use Rattle.face.proofs.face_of.Reads as face-of-reads
 use Rattle.face.proofs.face_of.Kinds as face-of-kinds
 use Rattle.face.proofs.state_sound.Reads as state-sound-reads
 use Rattle.face.proofs.state_sound.Kinds as state-sound-kinds
+use Rattle.face.proofs.stand_in.Reads as stand-in-reads
+use Rattle.face.proofs.stand_in.Kinds as stand-in-kinds
+use Rattle.face.proofs.handed_back.Reads as handed-back-reads
+use Rattle.face.proofs.handed_back.Kinds as handed-back-kinds
 use Rattle.face.proofs.records.found_at.Reads as found-at-reads
 use Rattle.face.proofs.records.found_at.Kinds as found-at-kinds
 use Rattle.face.proofs.records.write_entry.Reads as write-entry-reads
@@ -52,6 +56,12 @@ face-of-one κs a x y s t p q = p ∙ sym q
 
 pub state-sound-one : OneAnswer 0 state-sound-kinds.ps state-sound-kinds.r state-sound-reads.Post
 state-sound-one κs a x y s t p q = p ∙ sym q
+
+pub stand-in-one : OneAnswer 0 stand-in-kinds.ps stand-in-kinds.r stand-in-reads.Post
+stand-in-one κs a x y s t p q = p ∙ sym q
+
+pub handed-back-one : OneAnswer 0 handed-back-kinds.ps handed-back-kinds.r handed-back-reads.Post
+handed-back-one κs a x y s t p q = p ∙ sym q
 
 pub found-at-one : OneAnswer 1 found-at-kinds.ps found-at-kinds.r found-at-reads.Post
 found-at-one κs a x y s t p q = p ∙ sym q

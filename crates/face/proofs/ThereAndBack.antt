@@ -1,4 +1,4 @@
--- A state and its numbers go there and back, and so do a record and its numbers.
+-- A state and its numbers go there and back, and so do a record and its numbers; and what stands in for no state is never sound.
 use mathlib.Core.Bool.{Bool, true, false, cond, _&&_}
 use mathlib.Core.Path.{_≡_, refl, sym}
 use Prim.Native.Nat.{ℕ, _≤_}
@@ -13,9 +13,10 @@ use Rattle.transfer.specs.Transfer.{byteOf}
 use Rattle.transfer.specs.declared.Instruction.{Instruction}
 use Rattle.transfer.specs.declared.Instruction.the-variants.{Ignored, WriteEnable, WriteDisable, GetFeature, SetFeature, ReadId, PageRead, ReadCache, Load, LoadRandom, Execute, BlockErase, Reset}
 use Rattle.device.specs.Machine.{workIn}
+use Rattle.device.specs.Sound.{soundState}
 use Rattle.device.specs.declared.State.{State}
 use Rattle.face.specs.Face.{instructionAt, row, workAt, stateAs, toldCode, stateOf, flag, faced, facedWork, faceOf}
-use Rattle.face.specs.Promises.{StateBack, FaceBack, RecordBack}
+use Rattle.face.specs.Promises.{StateBack, FaceBack, RecordBack, NeverSound}
 use Rattle.face.specs.declared.Code.{Code}
 use Rattle.face.specs.declared.Code.the-variants.{Known, Unknown}
 use Rattle.face.specs.declared.Doing.{Doing}
@@ -136,3 +137,9 @@ record-back record-of.Deselect = refl
 record-back (record-of.Units n) = refl
 record-back (record-of.Level v) = refl
 record-back record-of.Power = refl
+
+-- ---- the stand-in
+
+pub never-sound : NeverSound
+unfolding soundState
+never-sound g = refl

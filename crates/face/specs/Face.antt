@@ -10,7 +10,7 @@ use Rattle.array.specs.declared.Job.{Job}
 use Rattle.array.specs.declared.Job.the-variants.{Read, Program, Erase}
 use Rattle.array.specs.declared.Work.{Work}
 use Rattle.array.specs.declared.Work.the-variants.{Idle, Busy}
-use Rattle.transfer.specs.Transfer.{byteOf}
+use Rattle.transfer.specs.Transfer.{byteOf, fresh}
 use Rattle.transfer.specs.declared.Instruction.{Instruction}
 use Rattle.transfer.specs.declared.Instruction.the-variants.{Ignored, WriteEnable, WriteDisable, GetFeature, SetFeature, ReadId, PageRead, ReadCache, Load, LoadRandom, Execute, BlockErase, Reset}
 use Rattle.device.specs.Sound.{soundState}
@@ -168,3 +168,19 @@ faceOf s = facedWork s (s .work)
 abbrev pub soundTold : Geometry → Told → Bool
 soundTold g (Good s) = soundState g s
 soundTold g Bad = false
+
+-- ---- numbers that stand for no state: a state stands in for them, and they are given back as they came
+
+-- a state that is sound on no part: its status register has bits above bit 3
+abbrev pub noState : State
+noState = record { regs = record { a0 = 0; b0 = 0; c0 = 0xF0; d0 = 0 }; bus = record { pins = record { wp = false }; transfer = fresh false }; work = Idle }
+
+-- the state to run
+abbrev pub standIn : Told → State
+standIn (Good s) = s
+standIn Bad = noState
+
+-- the numbers to give back: those of the state after, or those that came
+abbrev pub handedBack : Told → CState → State → CState
+handedBack (Good s) c after = faceOf after
+handedBack Bad c after = c

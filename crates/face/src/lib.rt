@@ -1,6 +1,6 @@
 // The numbers of C: the structs of include/sleetanvil.h, and what the numbers of a part and of a device state stand for.
 ghost use mathlib.Core.Path.{_≡_};
-ghost use Rattle.face.specs.Face.{partOf, facePart, cellsLength, cacheLength, countsLength, instructionAt, workAt, stateAs, stateOf, flag, faced, facedJob, faceOf, soundTold};
+ghost use Rattle.face.specs.Face.{partOf, facePart, cellsLength, cacheLength, countsLength, instructionAt, workAt, stateAs, stateOf, flag, faced, facedJob, faceOf, soundTold, noState, standIn, handedBack};
 
 pub mod records;
 pub mod texts;
@@ -330,5 +330,44 @@ pub fn state_sound(part: CGeometry, state: CState) -> bool
     match state_of(state) {
         Told::Good(s) => s.sound(g),
         Told::Bad => false,
+    }
+}
+
+// A state that is sound on no part.
+fn no_state() -> State
+    ensures { λ r. ⌜ r ≡ noState ⌝ }
+{
+    State {
+        regs: Registers {
+            a0: 0,
+            b0: 0,
+            c0: 0xF0,
+            d0: 0,
+        },
+        bus: Bus {
+            pins: Pins { wp: false },
+            transfer: Transfer::fresh(false),
+        },
+        work: Work::Idle,
+    }
+}
+
+// The state to run: the one that numbers stand for, or else one that is sound on no part.
+pub fn stand_in(x: Told) -> State
+    ensures { λ r. ⌜ r ≡ standIn x ⌝ }
+{
+    match x {
+        Told::Good(s) => s,
+        Told::Bad => no_state(),
+    }
+}
+
+// The numbers of the state that came back; those that stood for no state come back as they were.
+pub fn handed_back(x: Told, c: CState, after: State) -> CState
+    ensures { λ r. ⌜ r ≡ handedBack x c after ⌝ }
+{
+    match x {
+        Told::Good(_) => face_of(after),
+        Told::Bad => c,
     }
 }

@@ -9,14 +9,14 @@ use Rattle.part.specs.Part.{page, rows, soundPart}
 use Rattle.part.specs.declared.Geometry.{Geometry}
 use Rattle.part.proofs.Choice.{cond-no}
 use Rattle.device.specs.Machine.{machine}
-use Rattle.device.specs.Sound.{soundState}
 use Rattle.device.specs.Work.{stepping}
 use Rattle.device.specs.declared.State.{State}
-use Rattle.face.specs.Face.{partOf, stateOf}
+use Rattle.face.specs.Face.{partOf, stateOf, noState, standIn, handedBack}
 use Rattle.face.specs.declared.CGeometry.{CGeometry}
 use Rattle.face.specs.declared.CState.{CState}
 use Rattle.face.specs.declared.Told.{Told}
 use Rattle.face.specs.declared.Told.the-variants.{Good, Bad}
+use Rattle.face.proofs.ThereAndBack.{never-sound}
 use Rattle.model.specs.Refusals.{numberOf, checkOf, passed}
 use Rattle.model.specs.Runs as model
 use Rattle.model.specs.Runs.{End, Outcome, runOf, shown}
@@ -25,18 +25,14 @@ use Rattle.model.proofs.Single.{shown-none}
 use Rattle.whole.specs.Demand.{given}
 use Rattle.orderly.specs.Judge.{Judgement, judgementOf}
 use Rattle.sleetanvil.specs.Promises.{BadExactly}
-use Rattle.sleetanvil.specs.Runs.{CEnd, CJudgement, shownAs, noState, ranTold, faceRan, judgedTold, judgedOf, standIn, handedBack, orderlyOf}
-
-unsound : (g : Geometry) → soundState g noState ≡ false
-unfolding soundState
-unsound g = refl
+use Rattle.sleetanvil.specs.Runs.{CEnd, CJudgement, shownAs, ranTold, faceRan, judgedTold, judgedOf, orderlyOf}
 
 -- the checks, with the last one out
 stops-at : (g : Geometry) (cells cache counts : ℕ) →
     checkOf g noState cells cache counts
     ≡ cond (not (soundPart g)) BadPart (cond (not (eqb cells (rows g * page g))) BadCells (cond (not (eqb cache (page g))) BadCache (cond (not (eqb counts (rows g))) BadCounts BadState)))
 unfolding checkOf
-stops-at g cells cache counts = rw (unsound g)
+stops-at g cells cache counts = rw (never-sound g)
 
 -- they refuse it
 stops : (g : Geometry) (cells cache counts : ℕ) → passed (checkOf g noState cells cache counts) ≡ false

@@ -4,12 +4,9 @@ use mathlib.Core.List.{List, []}
 use Prim.Native.Nat.{ℕ}
 use lib.ListN.{length}
 use Rattle.part.specs.declared.Geometry.{Geometry}
-use Rattle.array.specs.declared.Work.the-variants.{Idle}
-use Rattle.transfer.specs.Transfer.{fresh}
 use Rattle.device.specs.Machine.{machine}
 use Rattle.device.specs.Work.{stepping}
-use Rattle.device.specs.declared.State.{State}
-use Rattle.face.specs.Face.{partOf, stateOf, faceOf}
+use Rattle.face.specs.Face.{partOf, stateOf, faceOf, noState}
 use Rattle.face.specs.declared.CGeometry.{CGeometry}
 use Rattle.face.specs.declared.CState.{CState}
 use Rattle.face.specs.declared.CAnswer.{CAnswer}
@@ -44,13 +41,9 @@ answerOf c a = record { state = c; records = a .records; used = a .used; written
 abbrev pub shownAs : CState → End → CEnd
 shownAs c e = faceSeen (answerOf c (e .answer)) (e .cells) (e .cache) (e .counts) (e .out)
 
--- ---- a state that no numbers show
+-- ---- numbers that stand for no state
 
--- a state that is sound on no part: its status register has bits above bit 3
-abbrev pub noState : State
-noState = record { regs = record { a0 = 0; b0 = 0; c0 = 0xF0; d0 = 0 }; bus = record { pins = record { wp = false }; transfer = fresh false }; work = Idle }
-
--- numbers that stand for no state: 1 to 4 are checked as for any state, in their order, and then it is 5
+-- 1 to 4 are checked as for any state, in their order, and then it is 5
 abbrev pub checkBad : Geometry → ℕ → ℕ → ℕ → ℕ
 checkBad g cells cache counts = numberOf (checkOf g noState cells cache counts)
 
@@ -119,19 +112,7 @@ judgedTold g c Bad log cells cache counts out = record { end = ranTold g c Bad l
 unfoldable pub judgedOf : CGeometry → CState → List ℕ → List ℕ → List ℕ → List ℕ → List ℕ → CJudgement
 judgedOf g c log cells cache counts out = judgedTold g c (stateOf c) log cells cache counts out
 
--- ---- how the code goes about it: the model runs the state, or else the one that is sound on no part, and what it answers is put right
-
--- the state that the model runs
-abbrev pub standIn : Told → State
-standIn (Good s) = s
-standIn Bad = noState
-
--- the numbers that go back: those of the state that the model answers, or those that came
-abbrev pub handedBack : Told → CState → State → CState
-handedBack (Good s) c after = faceOf after
-handedBack Bad c after = c
-
--- the test that goes back
+-- the code judges the run of a state that stands in for none, and puts the test right
 abbrev pub orderlyOf : Told → Bool → Bool
 orderlyOf (Good s) ok = ok
 orderlyOf Bad ok = false

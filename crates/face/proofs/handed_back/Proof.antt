@@ -1,7 +1,7 @@
 -- The numbers of the state that came back, or those that came.
 use borrow.Author.Needs.{needs}
-use Rattle.sleetanvil.proofs.handed_back.Statement.{statement}
-use Rattle.sleetanvil.proofs.handed_back.Tie as tie
+use Rattle.face.proofs.handed_back.Statement.{statement}
+use Rattle.face.proofs.handed_back.Tie as tie
 
 enum-told : tie.Need-enum-told
 enum-told c = search needs

@@ -1,7 +1,7 @@
 -- The stand-in for no state.
 use borrow.Author.Needs.{needs}
-use Rattle.sleetanvil.proofs.no_state.Statement.{statement}
-use Rattle.sleetanvil.proofs.no_state.Tie as tie
+use Rattle.face.proofs.no_state.Statement.{statement}
+use Rattle.face.proofs.no_state.Tie as tie
 
 fresh-requires : tie.Need-fresh-requires
 fresh-requires c κs = search needs

@@ -1,7 +1,7 @@
 -- The state, or the one that stands in for none.
 use borrow.Author.Needs.{needs}
-use Rattle.sleetanvil.proofs.stand_in.Statement.{statement}
-use Rattle.sleetanvil.proofs.stand_in.Tie as tie
+use Rattle.face.proofs.stand_in.Statement.{statement}
+use Rattle.face.proofs.stand_in.Tie as tie
 
 enum-known-x : tie.Need-enum-known-x
 enum-known-x c = search needs
