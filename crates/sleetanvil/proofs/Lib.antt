@@ -1,5 +1,3 @@
-pub mod ThereAndBack
 pub mod Refused
 pub mod Quiet
-pub mod Texts
 pub mod OneAnswer

@@ -4,10 +4,10 @@ use mathlib.Core.Path.{ap, _∙_, sym}
 use Prim.Native.Nat.{ℕ}
 use denote.Ref.{now}
 use Rattle.part.specs.OneAnswer.{OneAnswer, OneEnd}
-use Rattle.sleetanvil.specs.Records.{CPut}
+use Rattle.face.specs.Records.{CPut}
+use Rattle.face.specs.Text.{CLaid}
+use Rattle.face.specs.declared.CJudged.{CJudged}
 use Rattle.sleetanvil.specs.Runs.{CEnd, CQuiet, CJudgement}
-use Rattle.sleetanvil.specs.declared.CJudged.{CJudged}
-use Rattle.sleetanvil.specs.Text.{Laid}
 use Rattle.sleetanvil.proofs.sleet_fm25s005bi3.Reads as sleet-fm25s005bi3-reads
 use Rattle.sleetanvil.proofs.sleet_fm25s005bi3.Kinds as sleet-fm25s005bi3-kinds
 use Rattle.sleetanvil.proofs.sleet_bench.Reads as sleet-bench-reads
@@ -122,4 +122,4 @@ pub sleet-write-one : OneEnd 1 sleet-write-kinds.ps sleet-write-kinds.r (List �
 sleet-write-one κs a x y s t p q = (ap (λ (w : CPut). w .answer) (p ∙ sym q), ap (λ (w : CPut). w .log) (p ∙ sym q))
 
 pub sleet-text-one : OneEnd 1 sleet-text-kinds.ps sleet-text-kinds.r (List ℕ) (λ κs s. now (s .1 .0)) sleet-text-reads.Post
-sleet-text-one κs a x y s t p q = (ap (λ (w : Laid). w .count) (p ∙ sym q), ap (λ (w : Laid). w .out) (p ∙ sym q))
+sleet-text-one κs a x y s t p q = (ap (λ (w : CLaid). w .count) (p ∙ sym q), ap (λ (w : CLaid). w .out) (p ∙ sym q))

@@ -11,14 +11,14 @@ use Rattle.buslog.specs.Read.{parse}
 use Rattle.buslog.specs.declared.Record.{Record}
 use Rattle.device.specs.Machine.{Machine, machine}
 use Rattle.device.specs.Work.{Array, stepping}
+use Rattle.face.specs.Face.{partOf, stateOf, faceOf}
+use Rattle.face.specs.declared.Told.{Told}
+use Rattle.face.specs.declared.Told.the-variants.{Good, Bad}
 use Rattle.model.specs.Runs as model
 use Rattle.model.specs.Runs.{Outcome, takes, runOf, shown}
 use Rattle.model.proofs.Single.{single-bad, single-done}
-use Rattle.sleetanvil.specs.Face.{partOf, stateOf}
 use Rattle.sleetanvil.specs.Promises.{AnyOutput}
-use Rattle.sleetanvil.specs.Runs.{shownAs, ranGiven, ranOf, unheard}
-use Rattle.sleetanvil.specs.declared.Given.{Given}
-use Rattle.sleetanvil.specs.declared.Given.the-variants.{Good, Bad}
+use Rattle.sleetanvil.specs.Runs.{shownAs, ranTold, faceRan, unheard}
 
 module _ (g : Geometry) (arr : Array) (room : ℕ) (e : Record) (m : Machine) (free : takes e ≡ 0) where
   ran : model.ranOf g arr room (parse (bytesOf e)) m ≡ model.ranOf g arr 0 (parse (bytesOf e)) m
@@ -33,9 +33,9 @@ module _ (g : Geometry) (arr : Array) (room : ℕ) (e : Record) (m : Machine) (f
   any-room = rw ran
 
 pub any-output : AnyOutput
-unfolding ranOf
+unfolding faceRan
 any-output g c e cells cache counts out free = go (stateOf c)
   where
-    go : (x : Given) → unheard (ranGiven g c x (bytesOf e) cells cache counts out) ≡ unheard (ranGiven g c x (bytesOf e) cells cache counts [])
-    go (Good s) = ap (λ (o : Outcome). unheard (shownAs (shown o out))) (any-room (partOf g) (stepping (partOf g)) (length out) e (machine s cells cache counts) free)
+    go : (x : Told) → unheard (ranTold g c x (bytesOf e) cells cache counts out) ≡ unheard (ranTold g c x (bytesOf e) cells cache counts [])
+    go (Good s) = ap (λ (o : Outcome). unheard (shownAs (faceOf (o .machine .state)) (shown o out))) (any-room (partOf g) (stepping (partOf g)) (length out) e (machine s cells cache counts) free)
     go Bad = refl

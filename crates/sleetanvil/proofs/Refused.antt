@@ -9,27 +9,30 @@ use Rattle.part.specs.Part.{page, rows, soundPart}
 use Rattle.part.specs.declared.Geometry.{Geometry}
 use Rattle.part.proofs.Choice.{cond-no}
 use Rattle.device.specs.Machine.{machine}
-use Rattle.device.specs.Sound.{soundState}
 use Rattle.device.specs.Work.{stepping}
+use Rattle.device.specs.declared.State.{State}
+use Rattle.face.specs.Face.{partOf, stateOf, noState, standIn, handedBack}
+use Rattle.face.specs.declared.CGeometry.{CGeometry}
+use Rattle.face.specs.declared.CState.{CState}
+use Rattle.face.specs.declared.Told.{Told}
+use Rattle.face.specs.declared.Told.the-variants.{Good, Bad}
+use Rattle.face.proofs.ThereAndBack.{never-sound}
 use Rattle.model.specs.Refusals.{numberOf, checkOf, passed}
 use Rattle.model.specs.Runs as model
 use Rattle.model.specs.Runs.{End, Outcome, runOf, shown}
 use Rattle.model.specs.declared.Refusal.the-variants.{BadPart, BadCells, BadCache, BadCounts, BadState}
 use Rattle.model.proofs.Single.{shown-none}
+use Rattle.whole.specs.Demand.{given}
+use Rattle.orderly.specs.Judge.{Judgement, judgementOf}
 use Rattle.sleetanvil.specs.Promises.{BadExactly}
-use Rattle.sleetanvil.specs.Runs.{CEnd, ended, noState, nothing}
-use Rattle.sleetanvil.specs.declared.CState.{CState}
-
-unsound : (g : Geometry) → soundState g noState ≡ false
-unfolding soundState
-unsound g = refl
+use Rattle.sleetanvil.specs.Runs.{CEnd, CJudgement, shownAs, ranTold, faceRan, judgedTold, judgedOf, orderlyOf}
 
 -- the checks, with the last one out
 stops-at : (g : Geometry) (cells cache counts : ℕ) →
     checkOf g noState cells cache counts
     ≡ cond (not (soundPart g)) BadPart (cond (not (eqb cells (rows g * page g))) BadCells (cond (not (eqb cache (page g))) BadCache (cond (not (eqb counts (rows g))) BadCounts BadState)))
 unfolding checkOf
-stops-at g cells cache counts = rw (unsound g)
+stops-at g cells cache counts = rw (never-sound g)
 
 -- they refuse it
 stops : (g : Geometry) (cells cache counts : ℕ) → passed (checkOf g noState cells cache counts) ≡ false
@@ -61,6 +64,32 @@ not-run g room log cells cache counts out =
     ap (λ (o : Outcome). shown o out) (cond-no (passed (checkOf g noState (length cells) (length cache) (length counts))) _ _ (stops g (length cells) (length cache) (length counts)))
     ∙ sym (shown-none g (stepping g) out (machine noState cells cache counts) (checkOf g noState (length cells) (length cache) (length counts)))
 
--- the model's refusal, and the numbers given back
-abbrev pub refusedAs : CState → End → CEnd
-refusedAs c e = ended (nothing (numberOf (e .answer .refusal)) c) (e .cells) (e .cache) (e .counts) (e .out)
+-- ---- what the model answers, put right, is what the numbers stand for
+
+-- the numbers that go back, beside the memory that a run left
+abbrev pub putRight : Told → CState → End → CEnd
+putRight x c e = shownAs (handedBack x c (e .answer .state)) e
+
+-- the same judged
+abbrev pub judgedRight : Told → CState → Judgement → CJudgement
+judgedRight x c j = record { end = putRight x c (j .end); orderly = orderlyOf x (j .orderly) }
+
+module _ (g : CGeometry) (c : CState) (log cells cache counts out : List ℕ) where
+  ran-right : (x : Told) →
+      putRight x c (shown (runOf (partOf g) (stepping (partOf g)) (length out) log (machine (standIn x) cells cache counts)) out) ≡ ranTold g c x log cells cache counts out
+  ran-right (Good s) = refl
+  ran-right Bad = ap (putRight Bad c) (not-run (partOf g) (length out) log cells cache counts out)
+
+  judged-right : (x : Told) → judgedRight x c (judgementOf (given (partOf g) (standIn x) log cells cache counts out)) ≡ judgedTold g c x log cells cache counts out
+  judged-right (Good s) = refl
+  judged-right Bad = ap (λ (e : CEnd). record { end = e; orderly = false }) (ran-right Bad)
+
+-- so it is with a call's own part and state
+module _ (g : CGeometry) (c : CState) (log cells cache counts out : List ℕ) {x : Told} {p : Geometry} {s : State} (hx : x ≡ stateOf c) (hp : p ≡ partOf g) (hs : s ≡ standIn x) where
+  pub as-ran : {e : End} → e ≡ shown (runOf p (stepping p) (length out) log (machine s cells cache counts)) out → putRight x c e ≡ faceRan g c log cells cache counts out
+  unfolding faceRan
+  as-ran h = rw (h, hs, hp, hx) (ran-right g c log cells cache counts out (stateOf c))
+
+  pub as-judged : {j : Judgement} → j ≡ judgementOf (given p s log cells cache counts out) → judgedRight x c j ≡ judgedOf g c log cells cache counts out
+  unfolding judgedOf
+  as-judged h = rw (h, hs, hp, hx) (judged-right g c log cells cache counts out (stateOf c))

@@ -1,5 +1,2 @@
-pub mod Face
 pub mod Runs
-pub mod Records
-pub mod Text
 pub mod Promises

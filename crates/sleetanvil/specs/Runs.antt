@@ -4,23 +4,20 @@ use mathlib.Core.List.{List, []}
 use Prim.Native.Nat.{ℕ}
 use lib.ListN.{length}
 use Rattle.part.specs.declared.Geometry.{Geometry}
-use Rattle.array.specs.declared.Work.the-variants.{Idle}
-use Rattle.transfer.specs.Transfer.{fresh}
 use Rattle.device.specs.Machine.{machine}
 use Rattle.device.specs.Work.{stepping}
-use Rattle.device.specs.declared.State.{State}
+use Rattle.face.specs.Face.{partOf, stateOf, faceOf, noState}
+use Rattle.face.specs.declared.CGeometry.{CGeometry}
+use Rattle.face.specs.declared.CState.{CState}
+use Rattle.face.specs.declared.CAnswer.{CAnswer}
+use Rattle.face.specs.declared.CJudged.{CJudged}
+use Rattle.face.specs.declared.Told.{Told}
+use Rattle.face.specs.declared.Told.the-variants.{Good, Bad}
 use Rattle.model.specs.Refusals.{numberOf, checkOf}
 use Rattle.model.specs.Runs.{End, runOf, shown}
 use Rattle.model.specs.declared.Answer.{Answer}
 use Rattle.whole.specs.Demand.{given}
 use Rattle.orderly.specs.Judge.{Judgement, judgementOf}
-use Rattle.sleetanvil.specs.Face.{partOf, stateOf, faceOf}
-use Rattle.sleetanvil.specs.declared.CGeometry.{CGeometry}
-use Rattle.sleetanvil.specs.declared.CState.{CState}
-use Rattle.sleetanvil.specs.declared.CAnswer.{CAnswer}
-use Rattle.sleetanvil.specs.declared.CJudged.{CJudged}
-use Rattle.sleetanvil.specs.declared.Given.{Given}
-use Rattle.sleetanvil.specs.declared.Given.the-variants.{Good, Bad}
 
 -- ---- what the caller sees
 
@@ -33,43 +30,40 @@ pub record CEnd : Type 0 where
   pub out : List ℕ
 
 -- the two together
-abbrev pub ended : CAnswer → List ℕ → List ℕ → List ℕ → List ℕ → CEnd
-ended a cells cache counts out = record { answer = a; cells = cells; cache = cache; counts = counts; out = out }
+abbrev pub faceSeen : CAnswer → List ℕ → List ℕ → List ℕ → List ℕ → CEnd
+faceSeen a cells cache counts out = record { answer = a; cells = cells; cache = cache; counts = counts; out = out }
 
--- the model's answer, its state and its refusal as numbers
-abbrev pub answerOf : Answer → CAnswer
-answerOf a = record { state = faceOf (a .state); records = a .records; used = a .used; written = a .written; refusal = numberOf (a .refusal) }
+-- the model's answer in numbers, with the numbers of a state
+abbrev pub answerOf : CState → Answer → CAnswer
+answerOf c a = record { state = c; records = a .records; used = a .used; written = a .written; refusal = numberOf (a .refusal) }
 
 -- the same of all that a run of the model leaves
-abbrev pub shownAs : End → CEnd
-shownAs e = ended (answerOf (e .answer)) (e .cells) (e .cache) (e .counts) (e .out)
+abbrev pub shownAs : CState → End → CEnd
+shownAs c e = faceSeen (answerOf c (e .answer)) (e .cells) (e .cache) (e .counts) (e .out)
 
--- ---- a state that no numbers show
+-- ---- numbers that stand for no state
 
--- a state that is sound on no part: its status register has bits above bit 3
-abbrev pub noState : State
-noState = record { regs = record { a0 = 0; b0 = 0; c0 = 0xF0; d0 = 0 }; bus = record { pins = record { wp = false }; transfer = fresh false }; work = Idle }
-
--- numbers that stand for no state: 1 to 4 are checked as for any state, in their order, and then it is 5
+-- 1 to 4 are checked as for any state, in their order, and then it is 5
 abbrev pub checkBad : Geometry → ℕ → ℕ → ℕ → ℕ
 checkBad g cells cache counts = numberOf (checkOf g noState cells cache counts)
 
 -- nothing done, and the state's numbers given back as they came
-abbrev pub nothing : ℕ → CState → CAnswer
-nothing refusal c = record { state = c; records = 0; used = 0; written = 0; refusal = refusal }
+abbrev pub faceNothing : ℕ → CState → CAnswer
+faceNothing refusal c = record { state = c; records = 0; used = 0; written = 0; refusal = refusal }
 
 -- ---- a run
 
 -- a state goes through the model; where there is none, nothing is done
-abbrev pub ranGiven : CGeometry → CState → Given → List ℕ → List ℕ → List ℕ → List ℕ → List ℕ → CEnd
-ranGiven g c (Good s) log cells cache counts out =
-    shownAs (shown (runOf (partOf g) (stepping (partOf g)) (length out) log (machine s cells cache counts)) out)
-ranGiven g c Bad log cells cache counts out =
-    ended (nothing (checkBad (partOf g) (length cells) (length cache) (length counts)) c) cells cache counts out
+abbrev pub ranTold : CGeometry → CState → Told → List ℕ → List ℕ → List ℕ → List ℕ → List ℕ → CEnd
+ranTold g c (Good s) log cells cache counts out =
+    let e = shown (runOf (partOf g) (stepping (partOf g)) (length out) log (machine s cells cache counts)) out in
+    shownAs (faceOf (e .answer .state)) e
+ranTold g c Bad log cells cache counts out =
+    faceSeen (faceNothing (checkBad (partOf g) (length cells) (length cache) (length counts)) c) cells cache counts out
 
 -- a run of a log, from the part and the state that the numbers stand for
-unfoldable pub ranOf : CGeometry → CState → List ℕ → List ℕ → List ℕ → List ℕ → List ℕ → CEnd
-ranOf g c log cells cache counts out = ranGiven g c (stateOf c) log cells cache counts out
+unfoldable pub faceRan : CGeometry → CState → List ℕ → List ℕ → List ℕ → List ℕ → List ℕ → CEnd
+faceRan g c log cells cache counts out = ranTold g c (stateOf c) log cells cache counts out
 
 -- ---- an event that puts nothing out: the same without output
 
@@ -90,7 +84,7 @@ unheard e = quiet (e .answer) (e .cells) (e .cache) (e .counts)
 
 -- a run of the log with no output lent
 abbrev pub quietOf : CGeometry → CState → List ℕ → List ℕ → List ℕ → List ℕ → CQuiet
-quietOf g c log cells cache counts = unheard (ranOf g c log cells cache counts [])
+quietOf g c log cells cache counts = unheard (faceRan g c log cells cache counts [])
 
 -- ---- a run judged
 
@@ -100,18 +94,25 @@ pub record CJudgement : Type 0 where
   pub orderly : Bool
 
 -- the two together
-abbrev pub judged : CJudged → List ℕ → List ℕ → List ℕ → List ℕ → CJudgement
-judged r cells cache counts out = record { end = ended (r .answer) cells cache counts out; orderly = r .orderly }
+abbrev pub faceJudged : CJudged → List ℕ → List ℕ → List ℕ → List ℕ → CJudgement
+faceJudged r cells cache counts out = record { end = faceSeen (r .answer) cells cache counts out; orderly = r .orderly }
 
--- the judgement of the model's run in numbers
-abbrev pub judgedAs : Judgement → CJudgement
-judgedAs j = record { end = shownAs (j .end); orderly = j .orderly }
+-- the judgement of the model's run in numbers, with the numbers of a state
+abbrev pub judgedAs : CState → Judgement → CJudgement
+judgedAs c j = record { end = shownAs c (j .end); orderly = j .orderly }
 
 -- a state's run is judged; where there is no state, nothing is done, and that is not orderly
-abbrev pub judgedGiven : CGeometry → CState → Given → List ℕ → List ℕ → List ℕ → List ℕ → List ℕ → CJudgement
-judgedGiven g c (Good s) log cells cache counts out = judgedAs (judgementOf (given (partOf g) s log cells cache counts out))
-judgedGiven g c Bad log cells cache counts out = record { end = ranGiven g c Bad log cells cache counts out; orderly = false }
+abbrev pub judgedTold : CGeometry → CState → Told → List ℕ → List ℕ → List ℕ → List ℕ → List ℕ → CJudgement
+judgedTold g c (Good s) log cells cache counts out =
+    let j = judgementOf (given (partOf g) s log cells cache counts out) in
+    judgedAs (faceOf (j .end .answer .state)) j
+judgedTold g c Bad log cells cache counts out = record { end = ranTold g c Bad log cells cache counts out; orderly = false }
 
 -- a run of a log, judged
 unfoldable pub judgedOf : CGeometry → CState → List ℕ → List ℕ → List ℕ → List ℕ → List ℕ → CJudgement
-judgedOf g c log cells cache counts out = judgedGiven g c (stateOf c) log cells cache counts out
+judgedOf g c log cells cache counts out = judgedTold g c (stateOf c) log cells cache counts out
+
+-- the code judges the run of a state that stands in for none, and puts the test right
+abbrev pub orderlyOf : Told → Bool → Bool
+orderlyOf (Good s) ok = ok
+orderlyOf Bad ok = false

@@ -1,30 +1,23 @@
--- One event: the step of the model, or the refusal of numbers that stand for no state.
-use mathlib.Core.Path.{ap}
+-- One event: the step of the model, put right.
 use borrow.Author.Needs.{needs}
-use Rattle.sleetanvil.specs.Runs.{ranOf, shownAs}
+use Rattle.sleetanvil.proofs.Refused.{as-ran}
 use Rattle.sleetanvil.proofs.event.Statement.{statement}
 use Rattle.sleetanvil.proofs.event.Tie as tie
-
-part-of-requires : tie.Need-part-of-requires
-part-of-requires c κs = search needs
 
 state-of-requires : tie.Need-state-of-requires
 state-of-requires c κs = search needs
 
-enum-known-s : tie.Need-enum-known-s
-enum-known-s c = search needs
+part-of-requires : tie.Need-part-of-requires
+part-of-requires c κs = search needs
+
+stand-in-requires : tie.Need-stand-in-requires
+stand-in-requires c κs = search needs
 
 step-requires : tie.Need-step-requires
 step-requires c κs = search needs
 
 answer-of-requires : tie.Need-answer-of-requires
 answer-of-requires c κs = search needs
-
-enum-told : tie.Need-enum-told
-enum-told c = search needs
-
-refuse-requires : tie.Need-refuse-requires
-refuse-requires c κs = search needs
 
 same-length : tie.Need-same-length
 same-length c = search needs
@@ -39,43 +32,21 @@ same-length-4 : tie.Need-same-length-4
 same-length-4 c = search needs
 
 returns : tie.Need-returns
-unfolding ranOf
-returns c = rw (c .answer-of .ensures, ← (c .before .before .before .before .before .before .before .before .before .before .before .before .before .before .before .before .before .state-of .ensures), c .before .before .before .before .before .before .before .before .before .before .before .before .before .before .before .s .given .1) (ap shownAs (rw (c .before .before .before .before .before .before .before .before .before .before .before .before .before .before .before .before .before .before .part-of .ensures) at (c .before .before .before .before .before .before .before .before .before .step .ensures)))
-
-same-length-5 : tie.Need-same-length-5
-same-length-5 c = search needs
-
-same-length-6 : tie.Need-same-length-6
-same-length-6 c = search needs
-
-same-length-7 : tie.Need-same-length-7
-same-length-7 c = search needs
-
-same-length-8 : tie.Need-same-length-8
-same-length-8 c = search needs
-
-returns-2 : tie.Need-returns-2
-unfolding ranOf
-returns-2 c = rw (← (c .before .before .before .before .before .before .before .before .before .before .before .before .before .before .before .state-of .ensures), c .before .before .before .before .before .before .before .before .before .before .before .before .before .enum-told .given .1) (rw (c .before .before .before .before .before .before .before .before .before .before .before .before .before .before .before .before .part-of .ensures) at (c .before .before .before .before .before .before .before .before .refuse .ensures))
+returns c =
+    rw (c .answer-of .ensures)
+    (as-ran _ _ _ _ _ _ _ (c .before .before .before .before .before .before .before .before .before .before .before .before .before .before .before .before .state-of .ensures) (c .before .before .before .before .before .before .before .before .before .before .before .before .before .before .before .part-of .ensures) (c .before .before .before .before .before .before .before .before .before .before .before .before .before .before .stand-in .ensures) (c .before .before .before .before .before .before .before .before .before .step .ensures))
 
 pub event-spec : {M : Type 1} → statement M
 event-spec =
     tie.close
     (tie.spec
-    part-of-requires
     state-of-requires
-    enum-known-s
+    part-of-requires
+    stand-in-requires
     step-requires
     answer-of-requires
-    enum-told
-    refuse-requires
     same-length
     same-length-2
     same-length-3
     same-length-4
-    returns
-    same-length-5
-    same-length-6
-    same-length-7
-    same-length-8
-    returns-2)
+    returns)

@@ -1,0 +1,5 @@
+pub mod ThereAndBack
+pub mod Words
+pub mod Scans
+pub mod Laying
+pub mod OneAnswer

@@ -1,0 +1,4 @@
+pub mod Face
+pub mod Records
+pub mod Text
+pub mod Promises

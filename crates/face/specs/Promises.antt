@@ -1,0 +1,35 @@
+-- What is promised of the numbers: a state and a record go there and back, what stands in for no state is never sound, and every text has room in 48 bytes.
+use mathlib.Core.Bool.{false}
+use mathlib.Core.Path.{_≡_}
+use Prim.Native.Nat.{ℕ, _<_}
+use lib.ListN.{length}
+use Rattle.part.specs.declared.Geometry.{Geometry}
+use Rattle.buslog.specs.declared.Record.{Record}
+use Rattle.device.specs.Sound.{soundState}
+use Rattle.device.specs.declared.State.{State}
+use Rattle.face.specs.Face.{stateOf, faceOf, noState}
+use Rattle.face.specs.Records.{faceRecord, entryOf}
+use Rattle.face.specs.Text.{textOf}
+use Rattle.face.specs.declared.CState.{CState}
+use Rattle.face.specs.declared.Told.the-variants.{Good}
+use Rattle.face.specs.declared.Entry.the-variants.{Event}
+
+-- the numbers of a state stand for that state
+abbrev pub StateBack : Type 0
+StateBack = (s : State) → stateOf (faceOf s) ≡ Good s
+
+-- numbers that stand for a state are that state's numbers
+abbrev pub FaceBack : Type 0
+FaceBack = (c : CState) (s : State) → stateOf c ≡ Good s → faceOf s ≡ c
+
+-- the state that stands in for none is sound on no part
+abbrev pub NeverSound : Type 0
+NeverSound = (g : Geometry) → soundState g noState ≡ false
+
+-- the numbers of a record stand for that record
+abbrev pub RecordBack : Type 0
+RecordBack = (e : Record) → entryOf (faceRecord e) ≡ Event e
+
+-- 48 bytes have room for every text and its NUL
+abbrev pub TextFits : Type 0
+TextFits = (n : ℕ) → length (textOf n) < 48

@@ -1,0 +1,82 @@
+-- What each number of refusal means, in a few English words, and how they are put into lent memory.
+use mathlib.Core.Bool.{Bool, not, _&&_}
+use mathlib.Core.List.{List, [], _∷_, _++_}
+use Prim.Native.Char.{code}
+use Prim.Native.Nat.{ℕ, _+_}
+use Prim.Native.String.{String, [] as []ˢ, _∷_ as _∷ˢ_}
+use lib.Dec.{eqb, leb}
+use lib.ListN.{length, drop}
+use Rattle.part.specs.Choice.{if_then_else_}
+
+-- ---- the words
+
+-- a number and its words
+pub record Meaning : Type 0 where
+  pub number : ℕ
+  pub words : String
+
+infix 70 _means_
+abbrev pub _means_ : ℕ → String → Meaning
+n means s = record { number = n; words = s }
+
+-- document 01's lines, in their order
+unfoldable pub meanings : List Meaning
+meanings =
+    0 means "done"
+    ∷ 1 means "the geometry is not sound"
+    ∷ 2 means "cells of the wrong length"
+    ∷ 3 means "cache register of the wrong length"
+    ∷ 4 means "page counts of the wrong length"
+    ∷ 5 means "the state is not sound"
+    ∷ 6 means "the next kind is none of 01h to 06h"
+    ∷ 7 means "the log ends inside a body"
+    ∷ 8 means "a WP# level above 1"
+    ∷ 9 means "no output room, or too little for a record"
+    ∷ []
+
+-- the words for a number that has none
+abbrev pub unmeant : String
+unmeant = "no such refusal"
+
+-- the words of a number among some
+unfoldable pub wordsAmong : List Meaning → ℕ → String
+wordsAmong [] n = unmeant
+wordsAmong (m ∷ ms) n = if eqb n (m .number) then m .words else wordsAmong ms n
+
+-- the characters' numbers
+unfoldable pub bytes : String → List ℕ
+bytes []ˢ = []
+bytes (c ∷ˢ s) = code c ∷ bytes s
+
+-- the bytes of a number's words
+abbrev pub textOf : ℕ → List ℕ
+textOf n = bytes (wordsAmong meanings n)
+
+-- ---- a text in lent memory
+
+-- the length that is answered, and what the lent memory then holds
+pub record CLaid : Type 0 where
+  pub count : ℕ
+  pub out : List ℕ
+
+-- the two together
+abbrev pub faceLaid : ℕ → List ℕ → CLaid
+faceLaid count out = record { count = count; out = out }
+
+-- a text at the front with a NUL behind it, the rest as it was; where they do not fit, 0 and not a byte changed
+unfoldable pub textLaid : List ℕ → List ℕ → CLaid
+textLaid text out =
+    if leb (length out) (length text) then faceLaid 0 out
+    else faceLaid (length text) (text ++ (0 ∷ drop (length text + 1) out))
+
+-- ---- how the code looks words up: in one table, the words for a number that has none first, then row by row a number and its words, a NUL behind all words
+
+-- the bytes before the first NUL
+unfoldable pub upToNul : List ℕ → List ℕ
+upToNul [] = []
+upToNul (b ∷ bs) = if eqb b 0 then [] else b ∷ upToNul bs
+
+-- what stands behind the number of a row, or else `other`; the first byte is inside words, or else it is a number
+unfoldable pub behind : Bool → ℕ → List ℕ → List ℕ → List ℕ
+behind inside n other [] = other
+behind inside n other (b ∷ bs) = if not inside && eqb n b then bs else behind (not (inside && eqb b 0)) n other bs
