@@ -15,7 +15,8 @@ use Rattle.face.specs.Face.{partOf, stateOf, faceOf}
 use Rattle.face.specs.declared.Told.{Told}
 use Rattle.face.specs.declared.Told.the-variants.{Good, Bad}
 use Rattle.model.specs.Runs as model
-use Rattle.model.specs.Runs.{Outcome, takes, runOf, shown}
+use Rattle.walk.specs.Turns.{takes}
+use Rattle.model.specs.Runs.{Outcome, runOf, shown}
 use Rattle.model.proofs.Single.{single-bad, single-done}
 use Rattle.sleetanvil.specs.Promises.{AnyOutput}
 use Rattle.sleetanvil.specs.Runs.{shownAs, ranTold, faceRan, unheard}

@@ -7,7 +7,6 @@ use lib.Dec.{eqb}
 use lib.ListN.{length}
 use Rattle.part.specs.Part.{page, rows, soundPart}
 use Rattle.part.specs.declared.Geometry.{Geometry}
-use Rattle.part.proofs.Choice.{cond-no}
 use Rattle.device.specs.Machine.{machine}
 use Rattle.device.specs.Work.{stepping}
 use Rattle.device.specs.declared.State.{State}
@@ -17,11 +16,12 @@ use Rattle.face.specs.declared.CState.{CState}
 use Rattle.face.specs.declared.Told.{Told}
 use Rattle.face.specs.declared.Told.the-variants.{Good, Bad}
 use Rattle.face.proofs.ThereAndBack.{never-sound}
-use Rattle.model.specs.Refusals.{numberOf, checkOf, passed}
+use Rattle.refusals.specs.Refusals.{numberOf, checkOf, passed}
+use Rattle.walk.specs.Turns.{nothing}
 use Rattle.model.specs.Runs as model
-use Rattle.model.specs.Runs.{End, Outcome, runOf, shown}
-use Rattle.model.specs.declared.Refusal.the-variants.{BadPart, BadCells, BadCache, BadCounts, BadState}
-use Rattle.model.proofs.Single.{shown-none}
+use Rattle.model.specs.Runs.{End, runOf, shown}
+use Rattle.refusals.specs.declared.Refusal.the-variants.{BadPart, BadCells, BadCache, BadCounts, BadState}
+use Rattle.model.proofs.Single.{run-refused}
 use Rattle.whole.specs.Demand.{given}
 use Rattle.orderly.specs.Judge.{Judgement, judgementOf}
 use Rattle.sleetanvil.specs.Promises.{BadExactly}
@@ -58,11 +58,9 @@ bad-exactly g cells cache counts = rw (stops-at g cells cache counts) (go (sound
 -- so a run of it does nothing
 pub not-run : (g : Geometry) (room : ℕ) (log cells cache counts out : List ℕ) →
     shown (runOf g (stepping g) room log (machine noState cells cache counts)) out
-    ≡ model.ended (model.nothing (checkOf g noState (length cells) (length cache) (length counts)) noState) cells cache counts out
-unfolding runOf
+    ≡ model.ended (nothing (checkOf g noState (length cells) (length cache) (length counts)) noState) cells cache counts out
 not-run g room log cells cache counts out =
-    ap (λ (o : Outcome). shown o out) (cond-no (passed (checkOf g noState (length cells) (length cache) (length counts))) _ _ (stops g (length cells) (length cache) (length counts)))
-    ∙ sym (shown-none g (stepping g) out (machine noState cells cache counts) (checkOf g noState (length cells) (length cache) (length counts)))
+    sym (run-refused g (stepping g) out (machine noState cells cache counts) room log (checkOf g noState (length cells) (length cache) (length counts)) refl (stops g (length cells) (length cache) (length counts)))
 
 -- ---- what the model answers, put right, is what the numbers stand for
 

@@ -11,7 +11,7 @@ use Rattle.buslog.specs.Log.{bytesOf}
 use Rattle.buslog.specs.declared.Record.{Record}
 use Rattle.face.specs.declared.CGeometry.{CGeometry}
 use Rattle.face.specs.declared.CState.{CState}
-use Rattle.model.specs.Runs.{takes}
+use Rattle.walk.specs.Turns.{takes}
 use Rattle.sleetanvil.specs.Runs.{checkBad, faceRan, unheard, quietOf}
 
 -- numbers that stand for no state: the part, the cells, the cache register and the page counts are checked first, and then it is 5

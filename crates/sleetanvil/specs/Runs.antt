@@ -13,9 +13,9 @@ use Rattle.face.specs.declared.CAnswer.{CAnswer}
 use Rattle.face.specs.declared.CJudged.{CJudged}
 use Rattle.face.specs.declared.Told.{Told}
 use Rattle.face.specs.declared.Told.the-variants.{Good, Bad}
-use Rattle.model.specs.Refusals.{numberOf, checkOf}
+use Rattle.refusals.specs.Refusals.{numberOf, checkOf}
 use Rattle.model.specs.Runs.{End, runOf, shown}
-use Rattle.model.specs.declared.Answer.{Answer}
+use Rattle.walk.specs.declared.Answer.{Answer}
 use Rattle.whole.specs.Demand.{given}
 use Rattle.orderly.specs.Judge.{Judgement, judgementOf}
 
