@@ -1,6 +1,7 @@
 -- The byte on DO: each answer at the tests that led to it.
 use borrow.Author.Tests.{lt-leb, le-leb, ne-eqb, not-true, not-false}
 use Rattle.device.specs.Instructions.{answer}
+use native.Mathlib.Omega.{arith}
 use borrow.Author.Needs.{needs}
 use Rattle.device.proofs.State.answer.Statement.{statement}
 use Rattle.device.proofs.State.answer.Tie as tie
@@ -17,14 +18,14 @@ is-requires c κs = search needs
 
 returns-2 : tie.Need-returns-2
 unfolding answer
-returns-2 c = rw (← (c .before .before .before .before .before .body-heard .ensures), not-false (c .before .before .before .before .before .body-heard .result) (c .before .before .before .before .if1 .left), ← (c .before .before .is .ensures), c .before .if2 .taken, lt-leb _ _ (c .if3 .taken))
+returns-2 c = rw (← (c .before .before .before .before .before .body-heard .ensures), not-false (c .before .before .before .before .before .body-heard .result) (c .before .before .before .before .if1 .left), ← (c .before .before .is .ensures), c .before .if2 .taken, lt-leb 2 (c .before .before .before .before .before .before .before .before .args .self .bus .transfer .count) (omega (arith, c .if3 .taken)))
 
 read-requires : tie.Need-read-requires
 read-requires c κs = search needs
 
 returns-3 : tie.Need-returns-3
 unfolding answer
-returns-3 c = rw (c .read .ensures, ← (c .before .before .before .before .before .before .before .body-heard .ensures), not-false (c .before .before .before .before .before .before .before .body-heard .result) (c .before .before .before .before .before .before .if1 .left), ← (c .before .before .before .before .is .ensures), c .before .before .before .if2 .taken, le-leb _ _ (c .before .before .if3 .left))
+returns-3 c = rw (c .read .ensures, ← (c .before .before .before .before .before .before .before .body-heard .ensures), not-false (c .before .before .before .before .before .before .before .body-heard .result) (c .before .before .before .before .before .before .if1 .left), ← (c .before .before .before .before .is .ensures), c .before .before .before .if2 .taken, le-leb 2 (c .before .before .before .before .before .before .before .before .before .before .args .self .bus .transfer .count) (omega (arith, c .before .before .if3 .left)))
 
 is-requires-2 : tie.Need-is-requires-2
 is-requires-2 c κs = search needs
@@ -46,14 +47,14 @@ is-requires-3 c κs = search needs
 
 returns-7 : tie.Need-returns-7
 unfolding answer
-returns-7 c = rw (← (c .before .before .before .before .before .before .before .before .before .body-heard .ensures), not-false (c .before .before .before .before .before .before .before .before .before .body-heard .result) (c .before .before .before .before .before .before .before .before .if1 .left), ← (c .before .before .before .before .before .before .is .ensures), c .before .before .before .before .before .if2 .left, ← (c .before .before .before .before .is2 .ensures), c .before .before .before .if4 .left, ← (c .before .before .is3 .ensures), c .before .if7 .taken, lt-leb _ _ (c .if8 .taken))
+returns-7 c = rw (← (c .before .before .before .before .before .before .before .before .before .body-heard .ensures), not-false (c .before .before .before .before .before .before .before .before .before .body-heard .result) (c .before .before .before .before .before .before .before .before .if1 .left), ← (c .before .before .before .before .before .before .is .ensures), c .before .before .before .before .before .if2 .left, ← (c .before .before .before .before .is2 .ensures), c .before .before .before .if4 .left, ← (c .before .before .is3 .ensures), c .before .if7 .taken, lt-leb 4 (c .before .before .before .before .before .before .before .before .before .before .before .before .args .self .bus .transfer .count) (omega (arith, c .if8 .taken)))
 
 cache-byte-requires : tie.Need-cache-byte-requires
 cache-byte-requires c κs = search needs
 
 returns-8 : tie.Need-returns-8
 unfolding answer
-returns-8 c = rw (c .cache-byte .ensures, ← (c .before .before .before .before .before .before .before .before .before .before .body-heard .ensures), not-false (c .before .before .before .before .before .before .before .before .before .before .body-heard .result) (c .before .before .before .before .before .before .before .before .before .if1 .left), ← (c .before .before .before .before .before .before .before .is .ensures), c .before .before .before .before .before .before .if2 .left, ← (c .before .before .before .before .before .is2 .ensures), c .before .before .before .before .if4 .left, ← (c .before .before .before .is3 .ensures), c .before .before .if7 .taken, le-leb _ _ (c .before .if8 .left))
+returns-8 c = rw (c .cache-byte .ensures, ← (c .before .before .before .before .before .before .before .before .before .before .body-heard .ensures), not-false (c .before .before .before .before .before .before .before .before .before .before .body-heard .result) (c .before .before .before .before .before .before .before .before .before .if1 .left), ← (c .before .before .before .before .before .before .before .is .ensures), c .before .before .before .before .before .before .if2 .left, ← (c .before .before .before .before .before .is2 .ensures), c .before .before .before .before .if4 .left, ← (c .before .before .before .is3 .ensures), c .before .before .if7 .taken, le-leb 4 (c .before .before .before .before .before .before .before .before .before .before .before .before .before .args .self .bus .transfer .count) (omega (arith, c .before .if8 .left)))
 
 returns-9 : tie.Need-returns-9
 unfolding answer
