@@ -2,7 +2,7 @@
 use denote.Ref.{now}
 use lib.ListN.{length, List·getD-eq-default}
 use Prim.Native.Nat.{_≤_, _<_}
-use Rattle.device.proofs.Bytes.{getD-any}
+use Rattle.reply.proofs.Bytes.{getD-any}
 use borrow.Author.Needs.{needs}
 use Rattle.model.proofs.stream.cache_byte.Statement.{statement}
 use Rattle.model.proofs.stream.cache_byte.Tie as tie

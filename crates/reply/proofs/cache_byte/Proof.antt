@@ -2,10 +2,10 @@
 use denote.Ref.{now}
 use lib.ListN.{length, List·getD-eq-default}
 use Prim.Native.Nat.{_≤_, _<_}
-use Rattle.device.proofs.Bytes.{getD-any}
+use Rattle.reply.proofs.Bytes.{getD-any}
 use borrow.Author.Needs.{needs}
-use Rattle.device.proofs.cache_byte.Statement.{statement}
-use Rattle.device.proofs.cache_byte.Tie as tie
+use Rattle.reply.proofs.cache_byte.Statement.{statement}
+use Rattle.reply.proofs.cache_byte.Tie as tie
 
 wide-short-requires : tie.Need-wide-short-requires
 wide-short-requires c κs = search needs
