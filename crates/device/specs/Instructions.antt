@@ -1,18 +1,17 @@
 -- Document 01, "Instructions": a byte shifted in with its answer on DO, and what an instruction does as chip select rises.
-use mathlib.Core.Bool.{not}
 use mathlib.Core.List.{List}
 use Prim.Native.Nat.{ℕ}
-use lib.Dec.{leb, eqb}
 use Rattle.part.specs.Choice.{if_then_else_}
 use Rattle.part.specs.declared.Geometry.{Geometry}
 use Rattle.part.specs.declared.Row.{Row}
-use Rattle.registers.specs.Registers.{oip, wel, welSet, welCleared, requestCleared, eFailSet, pFailSet, resetStatus, register, registerWritten}
-use Rattle.transfer.specs.Transfer.{is, bodyHeard, shiftedIn, cached, rowOf, ends, full, cacheByte}
+use Rattle.registers.specs.Registers.{oip, wel, welSet, welCleared, requestCleared, eFailSet, pFailSet, resetStatus, registerWritten}
+use Rattle.transfer.specs.Transfer.{shiftedIn, cached, rowOf, ends, full}
 use Rattle.transfer.specs.declared.Instruction.{Instruction}
 use Rattle.transfer.specs.declared.Instruction.the-variants.{Ignored, WriteEnable, WriteDisable, GetFeature, SetFeature, ReadId, PageRead, ReadCache, Load, LoadRandom, Execute, BlockErase, Reset}
 use Rattle.array.specs.Jobs.{withCache}
 use Rattle.array.specs.declared.Job.the-variants.{Read, Program, Erase}
 use Rattle.array.specs.declared.Work.the-variants.{Idle}
+use Rattle.reply.specs.Reply.{byteOut}
 use Rattle.requests.specs.Requests.{begins?, programFate, eraseFate, counted, uncounted}
 use Rattle.requests.specs.declared.Fate.{Fate}
 use Rattle.device.specs.declared.State.{State}
@@ -27,23 +26,9 @@ shifts g b m =
     let s = m .state in
     overBus (shiftedIn g (oip (s .regs .c0)) b) (overStore (λ x. withCache (cached g (s .bus) b (x .cache)) x) m)
 
--- ---- the byte on DO: FFh wherever no answer is named
-
--- from the byte that has k before it on
-abbrev pub from : ℕ → ℕ → ℕ → ℕ
-from k n x = if leb k n then x else 0xFF
-
--- 0Fh: each byte after the address answers the register's present value; 9Fh: after one idle byte the two identity bytes; 03h and 0Bh: after the
--- column and one idle byte the cache from the column on, FFh past P
+-- the byte on DO meanwhile. (Which byte that is stands with the reply.)
 unfoldable pub answer : Geometry → State → List ℕ → ℕ
-answer g s cache =
-    let t = s .bus .transfer in
-    let n = t .count in
-    if not (bodyHeard (s .bus)) then 0xFF
-    else if is t 0x0F then from 2 n (register (s .regs) (t .first))
-    else if is t 0x9F then if eqb n 2 then g .id0 else if eqb n 3 then g .id1 else 0xFF
-    else if is t 0x03 then from 4 n (cacheByte cache (t .column))
-    else 0xFF
+answer g s cache = byteOut g (s .regs) (s .bus) cache
 
 -- ---- 10h and D8h. (Whether a request begins, and what it does to the page counts, stands with the requests.)
 

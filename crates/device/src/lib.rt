@@ -1,7 +1,6 @@
 // The device: its state, and what each event of the bus does to it.
 // Document 01, "Instructions" and "Work of the array". Each method takes the state whole and hands the next one back.
 ghost use mathlib.Core.Path.{_≡_};
-ghost use lib.ListN.{getD};
 ghost use Rattle.array.specs.Jobs.{store};
 ghost use Rattle.transfer.specs.Transfer.{selects, withPins};
 ghost use Rattle.device.specs.Machine.{Machine, onCache, onCounts, onStore, busIn, statusIn};
@@ -74,49 +73,13 @@ impl State {
         }
     }
 
-    // The byte on DO for a byte shifted now.
-    fn answer(self, g: Geometry, cache: &[u8]) -> u8
-        ensures { λ r. ⌜ r ≡ answer g self (now (cache .entry)) ⌝ }
-    {
-        let x = self.bus;
-        if !x.body_heard() {
-            return 0xFF;
-        }
-        let t = x.transfer;
-        let n = t.count;
-        if t.is(0x0F) {
-            if n < 2 {
-                return 0xFF;
-            }
-            let r = self.regs;
-            return r.read(t.first);
-        }
-        if t.is(0x9F) {
-            if n == 2 {
-                return g.id0;
-            }
-            if n == 3 {
-                return g.id1;
-            }
-            return 0xFF;
-        }
-        if t.is(0x03) {
-            if n < 4 {
-                return 0xFF;
-            }
-            let c = t.column;
-            return transfer::byte_at(cache, c);
-        }
-        0xFF
-    }
-
     // One byte shifted in on DI, one out on DO.
     pub fn shift(self, g: Geometry, b: u8, cache: &mut [u8]) -> Shifted
         ensures { λ r. ⌜ ((m : Machine) → onCache (r .state) (now (cache .exit)) m ≡ shifts g b (onCache self (now (cache .entry)) m)) × (r .out ≡ answer g self (now (cache .entry))) ⌝ }
     {
-        let out = self.answer(g, &*cache);
         let x = self.bus;
         let r = self.regs;
+        let out = reply::byte_out(g, r, x, &*cache);
         x.caches(g, b, cache);
         let y = x.shifted_in(g, registers::oip(r.c0), b);
         Shifted {

@@ -2,6 +2,7 @@
 use denote.Ref.{now}
 use borrow.Author.Tests.{le-leb, lt-leb, not-true, not-false}
 use Rattle.requests.proofs.Fates.{program-fate}
+use native.Mathlib.Omega.{arith}
 use borrow.Author.Needs.{needs}
 use Rattle.requests.proofs.program_fate.Statement.{statement}
 use Rattle.requests.proofs.program_fate.Tie as tie
@@ -19,10 +20,10 @@ used-requires : tie.Need-used-requires
 used-requires c κs = search needs
 
 returns-2 : tie.Need-returns-2
-returns-2 c = let a = c .before .before .before .before .before .before .args in rw (program-fate (a .g) (a .a0) (a .row) (now (a .counts)), ← (c .before .before .before .before .erase-fate .ensures), ← (c .before .before .before .begins .ensures), not-false (c .before .before .before .begins .result) (c .before .before .if1 .left), ← (c .before .used .ensures), le-leb _ _ (c .if2 .taken))
+returns-2 c = let a = c .before .before .before .before .before .before .args in rw (program-fate (a .g) (a .a0) (a .row) (now (a .counts)), ← (c .before .before .before .before .erase-fate .ensures), ← (c .before .before .before .begins .ensures), not-false (c .before .before .before .begins .result) (c .before .before .if1 .left), ← (c .before .used .ensures), le-leb 4 (c .before .used .result) (omega (arith, c .if2 .taken)))
 
 returns-3 : tie.Need-returns-3
-returns-3 c = let a = c .before .before .before .before .before .before .args in rw (program-fate (a .g) (a .a0) (a .row) (now (a .counts)), ← (c .before .before .before .before .erase-fate .ensures), ← (c .before .before .before .begins .ensures), not-false (c .before .before .before .begins .result) (c .before .before .if1 .left), ← (c .before .used .ensures), lt-leb _ _ (c .if2 .left))
+returns-3 c = let a = c .before .before .before .before .before .before .args in rw (program-fate (a .g) (a .a0) (a .row) (now (a .counts)), ← (c .before .before .before .before .erase-fate .ensures), ← (c .before .before .before .begins .ensures), not-false (c .before .before .before .begins .result) (c .before .before .if1 .left), ← (c .before .used .ensures), lt-leb 4 (c .before .used .result) (omega (arith, c .if2 .left)))
 
 pub program-fate-spec : {M : Type 1} → statement M
 program-fate-spec =

@@ -4,7 +4,6 @@ use lib.ListN.{length, List·getD-eq-default}
 use Prim.Native.Nat.{_≤_, _<_}
 use Rattle.transfer.proofs.Bytes.{getD-any}
 use borrow.Author.Needs.{needs}
-use borrow.Author.Needs.{needs}
 use Rattle.transfer.proofs.byte_at.Statement.{statement}
 use Rattle.transfer.proofs.byte_at.Tie as tie
 

@@ -1,11 +1,11 @@
 -- A byte shifted: the answer, the cache and the transfer, one after another.
-use Rattle.device.specs.Instructions.{shifts}
+use Rattle.device.specs.Instructions.{answer, shifts}
 use borrow.Author.Needs.{needs}
 use Rattle.device.proofs.State.shift.Statement.{statement}
 use Rattle.device.proofs.State.shift.Tie as tie
 
-answer-requires : tie.Need-answer-requires
-answer-requires c κs = search needs
+byte-out-requires : tie.Need-byte-out-requires
+byte-out-requires c κs = search needs
 
 caches-requires : tie.Need-caches-requires
 caches-requires c κs = search needs
@@ -20,10 +20,10 @@ same-length : tie.Need-same-length
 same-length c = search needs
 
 returns : tie.Need-returns
-unfolding shifts
-returns c = (λ m. rw (c .before .shifted-in .ensures, c .before .before .oip .ensures, c .before .before .before .before .before .caches .ensures), c .before .before .before .before .before .before .before .before .before .answer .ensures)
+unfolding answer shifts
+returns c = (λ m. rw (c .before .shifted-in .ensures, c .before .before .oip .ensures, c .before .before .before .before .before .caches .ensures), c .before .before .before .before .before .before .before .byte-out .ensures)
 
 pub shift-spec : {M : Type 1} → statement M
 shift-spec =
     tie.close
-    (tie.spec answer-requires caches-requires oip-requires shifted-in-requires same-length returns)
+    (tie.spec byte-out-requires caches-requires oip-requires shifted-in-requires same-length returns)
