@@ -1,8 +1,10 @@
 //! The C test, compiled as C11 and as C++ with every warning an error, linked with the library, and
 //! run.
 //!
-//! `CC` and `CXX` name other compilers, and `SLEETANVIL_INCLUDE` another folder of the header than
-//! `../include`.
+//! `CC` and `CXX` name other compilers, with arguments behind the name if need be, and
+//! `SLEETANVIL_INCLUDE` another folder of the header than `../include`.
+
+mod support;
 
 use std::env;
 use std::path::{Path, PathBuf};
@@ -25,9 +27,11 @@ fn compile_and_run(variable: &str, usual: &str, language: &[&str], name: &str) {
     let header =
         env::var_os("SLEETANVIL_INCLUDE").map_or_else(|| package.join("../include"), PathBuf::from);
     let program = Path::new(env!("CARGO_TARGET_TMPDIR")).join(name);
-    let compiler = env::var_os(variable).unwrap_or_else(|| usual.into());
-    let mut compile = Command::new(compiler);
+    let compiler = env::var(variable).unwrap_or_else(|_| usual.into());
+    let mut words = compiler.split_whitespace();
+    let mut compile = Command::new(words.next().expect("a compiler's name"));
     compile
+        .args(words)
         .args(language)
         .args(STRICT)
         .arg("-I")
@@ -38,7 +42,7 @@ fn compile_and_run(variable: &str, usual: &str, language: &[&str], name: &str) {
         .arg("-o")
         .arg(&program);
     run(&mut compile);
-    run(&mut Command::new(program));
+    run(&mut support::program(&program));
 }
 
 /// Run a command, which has to end well.

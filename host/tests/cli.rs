@@ -1,9 +1,11 @@
 //! The command-line program from outside: its logs, images, trace and refusals.
 
+mod support;
+
 use std::fs;
 use std::io::Write;
 use std::path::{Path, PathBuf};
-use std::process::{Command, Output, Stdio};
+use std::process::{Output, Stdio};
 
 use sleetanvil::{Log, Record};
 
@@ -62,7 +64,7 @@ fn sleetanvil(args: &[&str]) -> Output {
 }
 
 fn with_input(args: &[&str], input: &[u8]) -> Output {
-    let mut child = Command::new(env!("CARGO_BIN_EXE_sleetanvil"))
+    let mut child = support::program(Path::new(env!("CARGO_BIN_EXE_sleetanvil")))
         .args(args)
         .stdin(Stdio::piped())
         .stdout(Stdio::piped())
