@@ -32,7 +32,7 @@ use Rattle.walk.specs.declared.Walk.{Walk}
 use Rattle.walk.specs.declared.Went.{Went}
 use Rattle.walk.specs.declared.Went.the-variants.{On, Off}
 use Rattle.walk.proofs.Turns.{further}
-use Rattle.model.specs.Runs.{Outcome, andThen, bytesOut, did, ranOf, ended, shown}
+use Rattle.model.specs.Runs.{Outcome, andThen, bytesOut, did, ranOf, seen, shown}
 use Rattle.model.proofs.Rooms.{puts-length, left-ends, left-full, left-next}
 
 -- what a run has done so far, before an outcome
@@ -96,14 +96,14 @@ module _ (g : Geometry) (arr : Array) (log out₀ : List ℕ) (m₀ : Machine) w
 
     -- what the loop holds, seen as the end of the whole run
     abbrev pub Seen : Refusal → Type 0
-    Seen r = ended (answered r w) (m .store .cells) (m .store .cache) (m .counts) out ≡ shown whole out₀
+    Seen r = seen (answered r w) (m .store .cells) (m .store .cache) (m .counts) out ≡ shown whole out₀
 
     stop-with : (r : Refusal) → ranOf g arr (length out₀ - w .written) (parse (drop (w .at) log)) m ≡ did g arr m r [] → Seen r
     unfolding run bytesOut written
     stop-with r e =
         let o : record { refusal = r; machine = m; records = w .records; used = w .at; output = h .bytes } ≡ whole =
         sym (rw (e, add-zero (w .records), add-zero (w .at), append-nil (h .bytes)) at (sym (h .same))) in
-        rw (h .here, ← (h .long)) (ap (λ (l : List ℕ). ended (record { refusal = r; state = m .state; records = w .records; used = w .at; written = length (h .bytes) }) (m .store .cells) (m .store .cache) (m .counts) l)
+        rw (h .here, ← (h .long)) (ap (λ (l : List ℕ). seen (record { refusal = r; state = m .state; records = w .records; used = w .at; written = length (h .bytes) }) (m .store .cells) (m .store .cache) (m .counts) l)
         (h .lies ∙ ap (λ (n : ℕ). h .bytes ++ drop n out₀) (sym (h .long))))
         ∙ ap (λ (o : Outcome). shown o out₀) o
 
@@ -176,7 +176,7 @@ module _ (g : Geometry) (arr : Array) (log out₀ : List ℕ) (m₀ : Machine) w
   -- what it leaves: the run stands behind the record, further on, or it has ended as the whole run does
   abbrev pub Left : Walk → Went → Machine → List ℕ → Type 0
   Left w (On x) m out = (w .at < x .at) × Going x out m
-  Left w (Off r) m out = ended (answered r w) (m .store .cells) (m .store .cache) (m .counts) out ≡ shown whole out₀
+  Left w (Off r) m out = seen (answered r w) (m .store .cells) (m .store .cache) (m .counts) out ≡ shown whole out₀
 
   abbrev LeftBy : Walk → Turned → Type 0
   LeftBy w t = Left w (t .went) (t .machine) (t .out)
@@ -200,5 +200,5 @@ module _ (g : Geometry) (arr : Array) (log out₀ : List ℕ) (m₀ : Machine) w
       pub going-on : (x : Walk) → r ≡ On x → (w .at < x .at) × Going x out₁ (machine (x .state) cells cache counts)
       going-on x q = subst (λ (y : Went). Left w y (machine (stateAfter w y) cells cache counts) out₁) q left-as
 
-      pub going-off : (why : Refusal) → r ≡ Off why → ended (answered why w) cells cache counts out₁ ≡ shown whole out₀
+      pub going-off : (why : Refusal) → r ≡ Off why → seen (answered why w) cells cache counts out₁ ≡ shown whole out₀
       going-off why q = subst (λ (y : Went). Left w y (machine (stateAfter w y) cells cache counts) out₁) q left-as

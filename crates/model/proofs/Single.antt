@@ -23,7 +23,7 @@ use Rattle.device.specs.declared.State.{State}
 use Rattle.refusals.specs.Refusals.{passed, checkedAs}
 use Rattle.walk.specs.Turns.{takes, puts, nothing}
 use Rattle.walk.specs.declared.Answer.{Answer}
-use Rattle.model.specs.Runs.{Outcome, andThen, bytesOut, did, ranOf, runOf, End, ended, shown}
+use Rattle.model.specs.Runs.{Outcome, andThen, bytesOut, did, ranOf, runOf, End, seen, shown}
 use Rattle.refusals.specs.declared.Refusal.{Refusal}
 use Rattle.refusals.specs.declared.Refusal.the-variants.{Done, BadLevel, NoRoom}
 use Rattle.model.proofs.Rooms.{puts-length, did-parts, left-ends, left-full, left-next}
@@ -68,7 +68,7 @@ module _ (g : Geometry) (arr : Array) (room : ℕ) (e : Record) (m : Machine) wh
 module _ (g : Geometry) (arr : Array) (out : List ℕ) (m : Machine) where
   -- the machine x and the output o, with an answer
   abbrev pub withAnswer : Answer → Machine → List ℕ → End
-  withAnswer a x o = ended a (x .store .cells) (x .store .cache) (x .counts) o
+  withAnswer a x o = seen a (x .store .cells) (x .store .cache) (x .counts) o
 
   shown-none : (r : Refusal) → withAnswer (nothing r (m .state)) m out ≡ shown (did g arr m r []) out
   unfolding run bytesOut written

@@ -70,13 +70,13 @@ pub record End : Type 0 where
   pub counts : List ℕ
   pub out : List ℕ
 
-abbrev pub ended : Answer → List ℕ → List ℕ → List ℕ → List ℕ → End
-ended a cells cache counts out = record { answer = a; cells = cells; cache = cache; counts = counts; out = out }
+abbrev pub seen : Answer → List ℕ → List ℕ → List ℕ → List ℕ → End
+seen a cells cache counts out = record { answer = a; cells = cells; cache = cache; counts = counts; out = out }
 
 -- an outcome, with the output laid over the old bytes: those past the written ones are as they were
 abbrev pub shown : Outcome → List ℕ → End
 shown o out =
-    ended
+    seen
     (record { refusal = o .refusal; state = o .machine .state; records = o .records; used = o .used; written = length (o .output) })
     (o .machine .store .cells)
     (o .machine .store .cache)

@@ -7,7 +7,7 @@ ghost use Rattle.buslog.specs.Read.{parse};
 ghost use Rattle.device.specs.Machine.{machine};
 ghost use Rattle.device.specs.Work.{stepping};
 ghost use Rattle.kept.specs.Kept.{SoundMachine};
-ghost use Rattle.model.specs.Runs.{ranOf, runOf, ended, shown};
+ghost use Rattle.model.specs.Runs.{ranOf, runOf, seen, shown};
 use buslog::Record;
 use device::State;
 use part::Geometry;
@@ -28,7 +28,7 @@ fn go(
 ) -> Answer
     requires { ⌜ (Sound g) × (SoundMachine g (machine state (now cells) (now cache) (now counts))) ⌝ }
     ensures { λ r.
-        ⌜ ended r (now (cells .exit)) (now (cache .exit)) (now (counts .exit)) (now (out .exit))
+        ⌜ seen r (now (cells .exit)) (now (cache .exit)) (now (counts .exit)) (now (out .exit))
         ≡ shown (ranOf g (stepping g) (length (now (out .entry))) (parse (now (log .entry))) (machine state (now (cells .entry)) (now (cache .entry)) (now (counts .entry)))) (now (out .entry)) ⌝ }
 {
     let mut w = Walk::start(state);
@@ -55,7 +55,7 @@ pub fn run(
     out: &mut [u8],
 ) -> Answer
     ensures { λ r.
-        ⌜ ended r (now (cells .exit)) (now (cache .exit)) (now (counts .exit)) (now (out .exit))
+        ⌜ seen r (now (cells .exit)) (now (cache .exit)) (now (counts .exit)) (now (out .exit))
         ≡ shown (runOf g (stepping g) (length (now (out .entry))) (now (log .entry)) (machine state (now (cells .entry)) (now (cache .entry)) (now (counts .entry)))) (now (out .entry)) ⌝ }
 {
     let k = refusals::check(g, state, cells.len(), cache.len(), counts.len());
@@ -76,7 +76,7 @@ pub fn step(
     out: &mut [u8],
 ) -> Answer
     ensures { λ r.
-        ⌜ ended r (now (cells .exit)) (now (cache .exit)) (now (counts .exit)) (now (out .exit))
+        ⌜ seen r (now (cells .exit)) (now (cache .exit)) (now (counts .exit)) (now (out .exit))
         ≡ shown (runOf g (stepping g) (length (now (out .entry))) (bytesOf e) (machine state (now (cells .entry)) (now (cache .entry)) (now (counts .entry)))) (now (out .entry)) ⌝ }
 {
     let k = refusals::check(g, state, cells.len(), cache.len(), counts.len());

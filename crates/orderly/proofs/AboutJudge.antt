@@ -7,7 +7,7 @@ use denote.Ref.{now}
 use denote.Triple.Clauses.{AtExit}
 use Rattle.part.proofs.Choice.{true-T}
 use Rattle.buslog.specs.Log.{Bytes}
-use Rattle.model.specs.Runs.{End, ended}
+use Rattle.model.specs.Runs.{End, seen}
 use Rattle.whole.specs.Demand.{Given, given, endOf, supposed, SameEnd}
 use Rattle.whole.proofs.Demand3.{demand-3}
 use Rattle.orderly.specs.Judge.{Judgement}
@@ -21,7 +21,7 @@ module _ (κs : Lfts 5) (a : Dens κs judge-kinds.ps) (x : resT judge-kinds.r κ
       given (a .0) (a .1 .0) (now (a .1 .1 .0)) (now (a .1 .1 .1 .0)) (now (a .1 .1 .1 .1 .0)) (now (a .1 .1 .1 .1 .1 .0)) (now (a .1 .1 .1 .1 .1 .1 .0))
 
   abbrev returned : End
-  returned = ended (x .answer) (now (s .1 .1 .1 .0)) (now (s .1 .1 .1 .1 .0)) (now (s .1 .1 .1 .1 .1 .0)) (now (s .1 .1 .1 .1 .1 .1 .0))
+  returned = seen (x .answer) (now (s .1 .1 .1 .0)) (now (s .1 .1 .1 .1 .0)) (now (s .1 .1 .1 .1 .1 .0)) (now (s .1 .1 .1 .1 .1 .1 .0))
 
   pub about-judge : judge-reads.Post κs a x s → Bytes (handed .log) → x .orderly ≡ true → SameEnd handed returned
   about-judge p h e =

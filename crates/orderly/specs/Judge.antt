@@ -2,7 +2,7 @@
 use mathlib.Core.Bool.{Bool, true, _&&_}
 use mathlib.Core.List.{List}
 use Prim.Native.Nat.{ℕ}
-use Rattle.model.specs.Runs.{End, ended}
+use Rattle.model.specs.Runs.{End, seen}
 use Rattle.buslog.specs.declared.Next.{Next}
 use Rattle.buslog.specs.declared.Next.the-variants.{Found, Stop}
 use Rattle.device.specs.declared.State.{State}
@@ -18,7 +18,7 @@ pub record Judgement : Type 0 where
 
 -- what the caller sees: the answer, every byte of the lent memory, and the judgement
 abbrev pub judged : Judged → List ℕ → List ℕ → List ℕ → List ℕ → Judgement
-judged r cells cache counts out = record { end = ended (r .answer) cells cache counts out; orderly = r .orderly }
+judged r cells cache counts out = record { end = seen (r .answer) cells cache counts out; orderly = r .orderly }
 
 -- the judgement that demand 3 asks for: the end is that of `run`, and the test is that of the suppositions on it
 abbrev pub judgementOf : Given → Judgement

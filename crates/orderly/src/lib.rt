@@ -4,7 +4,7 @@ ghost use mathlib.Core.Path.{_≡_};
 ghost use Rattle.part.specs.Part.{Sound};
 ghost use Rattle.device.specs.Machine.{machine};
 ghost use Rattle.kept.specs.Kept.{SoundMachine};
-ghost use Rattle.whole.specs.Orderly.{idle, first, unknown, resetting, allowed, firstRead, upRegisters, upTransfer, atPowerUp, starts};
+ghost use Rattle.whole.specs.Orderly.{idle, first, unknown, resetting, allowed, firstRead, upRegisters, upTransfer, powerUp?, starts};
 ghost use Rattle.whole.specs.Demand.{given};
 ghost use Rattle.orderly.specs.Judge.{judged, judgementOf, closed, welcome};
 use array::Job;
@@ -128,7 +128,7 @@ fn up_transfer(t: Transfer) -> bool
 
 // Whether the state is the power-up state, WP# at either level.
 fn at_power_up(s: State) -> bool
-    ensures { λ r. ⌜ r ≡ atPowerUp s ⌝ }
+    ensures { λ r. ⌜ r ≡ powerUp? s ⌝ }
 {
     let r = s.regs;
     let x = s.bus;

@@ -3,7 +3,8 @@ use mathlib.Core.Path.{ap, _∙_, sym}
 use denote.Ref.{now}
 use Rattle.part.specs.OneAnswer.{OneEnd}
 use Rattle.model.specs.Runs.{End}
-use Rattle.model.proofs.OneAnswer.{Lent, lentOf, lent}
+use Rattle.walk.proofs.OneAnswer.{Lent, lent}
+use Rattle.model.proofs.OneAnswer.{lentOf}
 use Rattle.quick.proofs.run.Reads as run-reads
 use Rattle.quick.proofs.run.Kinds as run-kinds
 

@@ -58,7 +58,7 @@ bad-exactly g cells cache counts = rw (stops-at g cells cache counts) (go (sound
 -- so a run of it does nothing
 pub not-run : (g : Geometry) (room : ℕ) (log cells cache counts out : List ℕ) →
     shown (runOf g (stepping g) room log (machine noState cells cache counts)) out
-    ≡ model.ended (nothing (checkOf g noState (length cells) (length cache) (length counts)) noState) cells cache counts out
+    ≡ model.seen (nothing (checkOf g noState (length cells) (length cache) (length counts)) noState) cells cache counts out
 not-run g room log cells cache counts out =
     sym (run-refused g (stepping g) out (machine noState cells cache counts) room log (checkOf g noState (length cells) (length cache) (length counts)) refl (stops g (length cells) (length cache) (length counts)))
 

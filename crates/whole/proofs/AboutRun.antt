@@ -5,7 +5,7 @@ use contract.Lifetimes.{Lfts}
 use denote.Ref.{now}
 use denote.Triple.Clauses.{AtExit}
 use Rattle.buslog.specs.Log.{Bytes}
-use Rattle.model.specs.Runs.{End, ended}
+use Rattle.model.specs.Runs.{End, seen}
 use Rattle.model.proofs.run.Reads as run-reads
 use Rattle.model.proofs.run.Kinds as run-kinds
 use Rattle.whole.specs.Demand.{Given, given, supposed, SameEnd}
@@ -18,7 +18,7 @@ module _ (κs : Lfts 5) (a : Dens κs run-kinds.ps) (x : resT run-kinds.r κs .D
       given (a .0) (a .1 .0) (now (a .1 .1 .0)) (now (a .1 .1 .1 .0)) (now (a .1 .1 .1 .1 .0)) (now (a .1 .1 .1 .1 .1 .0)) (now (a .1 .1 .1 .1 .1 .1 .0))
 
   abbrev returned : End
-  returned = ended x (now (s .1 .1 .1 .0)) (now (s .1 .1 .1 .1 .0)) (now (s .1 .1 .1 .1 .1 .0)) (now (s .1 .1 .1 .1 .1 .1 .0))
+  returned = seen x (now (s .1 .1 .1 .0)) (now (s .1 .1 .1 .1 .0)) (now (s .1 .1 .1 .1 .1 .0)) (now (s .1 .1 .1 .1 .1 .1 .0))
 
   pub about-run : run-reads.Post κs a x s → Bytes (handed .log) → T (supposed handed returned) → SameEnd handed returned
   about-run p h t = demand-3 handed h returned p t

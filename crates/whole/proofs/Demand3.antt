@@ -31,17 +31,17 @@ use Rattle.answers.proofs.Lines.{is-fine, is-stop, exactly}
 use Rattle.answers.proofs.Logs.{stops-parse}
 use Rattle.answers.proofs.Parts.{sound-of, fine-of, ended}
 use Rattle.whole.specs.Whole.{whole}
-use Rattle.whole.specs.Orderly.{rests, idle, orderly, firstRead, upRegisters, upTransfer, atPowerUp, starts, asked}
-use Rattle.whole.specs.Demand.{begun, Given, machineOf, Ran, wholly, recordsDone, supposed, SameEnd, Demand-3, AllDone}
+use Rattle.whole.specs.Orderly.{rests, idle, orderly, firstRead, upRegisters, upTransfer, powerUp?, starts, asked}
+use Rattle.whole.specs.Demand.{settled, Given, machineOf, Ran, wholly, recordsDone, supposed, SameEnd, Demand-3, AllDone}
 use Rattle.whole.proofs.Finish.{finish}
 use Rattle.whole.proofs.Start.{idle-finish, start-finish, finish-sound}
 use Rattle.whole.proofs.Follow.{Agree, agree-by, agree-length, agree-at, end-follows, out-follows, asked-follows}
 
 -- an idle machine is not at power-up, so that the whole run begins there too
-idle-begun : (g : Geometry) (m : Machine) → T (idle (m .state)) → begun g m ≡ m
-unfolding begun
-idle-begun g m t =
-    cond-keep (λ (x : Machine). x ≡ m) (atPowerUp (m .state))
+idle-settled : (g : Geometry) (m : Machine) → T (idle (m .state)) → settled g m ≡ m
+unfolding settled
+idle-settled g m t =
+    cond-keep (λ (x : Machine). x ≡ m) (powerUp? (m .state))
     (λ e. absurd (never (m .state .work) t (and-r (upRegisters (m .state .regs) && upTransfer (m .state .bus .transfer)) _ (true-T _ e)))) (λ e. refl)
   where
     never : (w : Work) → T (rests w) → T (firstRead w) → ⊥
@@ -54,11 +54,11 @@ module _ (g : Geometry) (room : ℕ) (log : List ℕ) (m : Machine) where
     pub why : Refusal
     pub es : List Record
     pub stepped : runOf g (stepping g) room log m ≡ did g (stepping g) m why es
-    pub whole-did : runOf g (whole g) room log (begun g m) ≡ did g (whole g) (begun g m) why es
+    pub whole-did : runOf g (whole g) room log (settled g m) ≡ did g (whole g) (settled g m) why es
     pub read : take (length es) (parse log .records) ≡ es
-    pub end : T (orderly g m es) → finish g (run g (stepping g) m es) ≡ run g (whole g) (begun g m) es
-    pub out : T (orderly g m es) → Agree (asked g (stepping g) m es) (bytesOut g (stepping g) m es) (bytesOut g (whole g) (begun g m) es)
-    pub questions : T (orderly g m es) → asked g (stepping g) m es ≡ asked g (whole g) (begun g m) es
+    pub end : T (orderly g m es) → finish g (run g (stepping g) m es) ≡ run g (whole g) (settled g m) es
+    pub out : T (orderly g m es) → Agree (asked g (stepping g) m es) (bytesOut g (stepping g) m es) (bytesOut g (whole g) (settled g m) es)
+    pub questions : T (orderly g m es) → asked g (stepping g) m es ≡ asked g (whole g) (settled g m) es
 
   -- where the checks hold
   both-fine : Bytes log → T (starts (m .state)) → Fine g m → Both
@@ -68,12 +68,12 @@ module _ (g : Geometry) (room : ℕ) (log : List ℕ) (m : Machine) where
       let k : SoundMachine g m = sound-of g m f in
       let es : List Record = fitting room (parse log .records) in
       let b : BytesIn es = bytes-fitting room (parse log .records) (bytes-read log h) in
-      let q : finish g m ≡ begun g m = start-finish g p m (k .fits) t in
+      let q : finish g m ≡ settled g m = start-finish g p m (k .fits) t in
       record {
         why = if ltb room (shiftsIn (parse log .records)) then NoRoom else refusalOf (parse log .why);
         es = es;
         stepped = is-fine g (stepping g) room log m f;
-        whole-did = is-fine g (whole g) room log (begun g m) (fine-of g (begun g m) p (subst (SoundMachine g) q (finish-sound g p m k)));
+        whole-did = is-fine g (whole g) room log (settled g m) (fine-of g (settled g m) p (subst (SoundMachine g) q (finish-sound g p m k)));
         read = fitting-first room (parse log .records);
         end = λ o. end-follows g p es m k b o ∙ ap (λ (x : Machine). run g (whole g) x es) q;
         out = λ o. subst (λ (x : Machine). Agree (asked g (stepping g) m es) (bytesOut g (stepping g) m es) (bytesOut g (whole g) x es)) q (out-follows g p es m k b o);
@@ -88,9 +88,9 @@ module _ (g : Geometry) (room : ℕ) (log : List ℕ) (m : Machine) where
         why = checkedAs g m;
         es = [];
         stepped = rw e;
-        whole-did = rw (idle-begun g m i, e);
+        whole-did = rw (idle-settled g m i, e);
         read = refl;
-        end = λ o. idle-finish g m i ∙ sym (idle-begun g m i);
+        end = λ o. idle-finish g m i ∙ sym (idle-settled g m i);
         out = λ o. tt;
         questions = λ o. refl;
       }

@@ -17,9 +17,9 @@ use Rattle.refusals.specs.Refusals.{checkOf}
 use Rattle.model.specs.Runs.{shiftsIn, fitting, bytesOut, ranOf, runOf}
 use Rattle.whole.specs.Whole.{ands, pageOf, done, whole}
 use Rattle.whole.specs.Orderly.{orderly}
-use Rattle.whole.specs.Demand.{begun}
+use Rattle.whole.specs.Demand.{settled}
 use Rattle.whole.specs.Examples.{rows, NoneToSpare}
 
 pub none-to-spare : NoneToSpare
-unfolding rows soundPart protects register registerWritten written front parseAfter over instructionOf selects shiftedIn cached jobs.written unitOf units stepping shifts answer programFate eraseFate programs erases resets effect acted deselects off powered step run soundState checkOf shiftsIn fitting bytesOut ranOf runOf ands pageOf done whole orderly begun
+unfolding rows soundPart protects register registerWritten written front parseAfter over instructionOf selects shiftedIn cached jobs.written unitOf units stepping shifts answer programFate eraseFate programs erases resets effect acted deselects off powered step run soundState checkOf shiftsIn fitting bytesOut ranOf runOf ands pageOf done whole orderly settled
 none-to-spare = refl

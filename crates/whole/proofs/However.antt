@@ -16,7 +16,7 @@ use Rattle.walk.specs.Turns.{puts}
 use Rattle.model.specs.Runs.{bytesOut, Outcome, End}
 use Rattle.whole.specs.Whole.{whole}
 use Rattle.whole.specs.Orderly.{asks, asked}
-use Rattle.whole.specs.Demand.{begun, Given, machineOf, Ran, wholly, recordsDone, supposed, SameEnd, busOnly, withLog, However}
+use Rattle.whole.specs.Demand.{settled, Given, machineOf, Ran, wholly, recordsDone, supposed, SameEnd, busOnly, withLog, However}
 use Rattle.whole.proofs.Demand3.{agreed, done-read, keeps-order, same-end}
 
 -- ---- the whole run, without its work records
@@ -59,7 +59,7 @@ module _ (i : Given) (h : Bytes (i .log)) (e : End) (r : Ran i e) (t : T (suppos
   part = i .part
 
   abbrev start : Machine
-  start = begun part (machineOf i)
+  start = settled part (machineOf i)
 
   abbrev bus : List Record
   bus = busOnly (recordsDone i e)
@@ -84,7 +84,7 @@ pub however : However
 however i b h k e f r q same t u =
     let j : Given = withLog b i in
     let g : Geometry = i .part in
-    let m : Machine = begun g (machineOf i) in
+    let m : Machine = settled g (machineOf i) in
     let x : SameEnd i e = same-end i h e r t in
     let y : SameEnd j f = same-end j k f q u in
     let one : wholly i .machine ≡ wholly j .machine = ends-at i h e r t ∙ ap (run g (whole g) m) same ∙ sym (ends-at j k f q u) in

@@ -25,8 +25,8 @@ use Rattle.device.specs.declared.State.{State}
 use Rattle.kept.specs.Kept.{SoundMachine}
 use Rattle.kept.proofs.Steps.{step-keeps}
 use Rattle.whole.specs.Whole.{done, whole}
-use Rattle.whole.specs.Orderly.{rests, idle, powerUpAt, firstRead, upRegisters, upTransfer, atPowerUp, starts}
-use Rattle.whole.specs.Demand.{begun, PowerUpExactly}
+use Rattle.whole.specs.Orderly.{rests, idle, powerUpAt, firstRead, upRegisters, upTransfer, powerUp?, starts}
+use Rattle.whole.specs.Demand.{settled, PowerUpExactly}
 use Rattle.whole.proofs.Pages.{units-whole}
 use Rattle.whole.proofs.Finish.{finishAs, finish, finish-is-units}
 use Rattle.whole.proofs.Quiet.{none-ignored}
@@ -63,7 +63,7 @@ work-up (Busy (Read r) i) t =
 work-up (Busy (Program r) i) t = absurd t
 work-up (Busy (Erase r) i) t = absurd t
 
-up : (s : State) → T (atPowerUp s) → s ≡ powerUpAt (s .bus .pins .wp)
+up : (s : State) → T (powerUp? s) → s ≡ powerUpAt (s .bus .pins .wp)
 up s t =
     let x = s .bus .transfer in
     let r = s .regs in
@@ -77,7 +77,7 @@ up s t =
     same wp e f h = rw (e, f, h)
 
 pub power-up-exactly : PowerUpExactly
-power-up-exactly s = (up s, λ e. subst⁻¹ (λ (x : State). T (atPowerUp x)) e tt)
+power-up-exactly s = (up s, λ e. subst⁻¹ (λ (x : State). T (powerUp? x)) e tt)
 
 -- ---- the beginning
 
@@ -95,10 +95,10 @@ idle-finish g m t = go (m .state .work) t
     go Idle t = refl
     go (Busy j i) t = absurd t
 
-pub start-finish : (g : Geometry) → Sound g → (m : Machine) → Fits g (m .store) → T (starts (m .state)) → finish g m ≡ begun g m
-unfolding begun
+pub start-finish : (g : Geometry) → Sound g → (m : Machine) → Fits g (m .store) → T (starts (m .state)) → finish g m ≡ settled g m
+unfolding settled
 start-finish g s m f t =
-    cond-keep (λ (x : Machine). finish g m ≡ x) (atPowerUp (m .state))
+    cond-keep (λ (x : Machine). finish g m ≡ x) (powerUp? (m .state))
     (λ e. subst⁻¹ (λ (x : State). finish g (withState x m) ≡ powered g (whole g) (withState x m)) (up (m .state) (true-T _ e)) (finish-up g s (m .state .bus .pins .wp) m f))
     (λ e. idle-finish g m (rw e at t))
 

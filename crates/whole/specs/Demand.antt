@@ -19,11 +19,11 @@ use Rattle.device.specs.declared.State.{State}
 use Rattle.refusals.specs.Refusals.{numberOf}
 use Rattle.model.specs.Runs.{Outcome, runOf, End, shown}
 use Rattle.whole.specs.Whole.{whole}
-use Rattle.whole.specs.Orderly.{idle, orderly, powerUpAt, atPowerUp, starts, asked}
+use Rattle.whole.specs.Orderly.{idle, orderly, powerUpAt, powerUp?, starts, asked}
 
 -- where the whole run begins: the power-up read is done before the first record
-unfoldable pub begun : Geometry → Machine → Machine
-begun g m = if atPowerUp (m .state) then powered g (whole g) m else m
+unfoldable pub settled : Geometry → Machine → Machine
+settled g m = if powerUp? (m .state) then powered g (whole g) m else m
 
 -- what is handed to `run`: the part, the state, the log, the lent memory and the output
 pub record Given : Type 0 where
@@ -50,7 +50,7 @@ Ran i e = e ≡ endOf i
 
 -- the whole run of the same log, with the same room for output
 abbrev pub wholly : Given → Outcome
-wholly i = runOf (i .part) (whole (i .part)) (length (i .out)) (i .log) (begun (i .part) (machineOf i))
+wholly i = runOf (i .part) (whole (i .part)) (length (i .out)) (i .log) (settled (i .part) (machineOf i))
 
 -- the records that were done
 abbrev pub recordsDone : Given → End → List Record
@@ -84,7 +84,7 @@ AllDone = (i : Given) → Bytes (i .log) → (e : End) → Ran i e → numberOf 
 
 -- the test of the start says what it should: the state is the power-up state, WP# at either level
 abbrev pub PowerUpExactly : Type 0
-PowerUpExactly = (s : State) → T (atPowerUp s) ↔ (s ≡ powerUpAt (s .bus .pins .wp))
+PowerUpExactly = (s : State) → T (powerUp? s) ↔ (s ≡ powerUpAt (s .bus .pins .wp))
 
 -- ---- however the work falls
 
@@ -103,7 +103,7 @@ abbrev pub withLog : List ℕ → Given → Given
 withLog l i = given (i .part) (i .state) l (i .cells) (i .cache) (i .counts) (i .out)
 
 -- one end: of two runs, the state, the memory, and each output byte that is no status answer
-pub record OneEnd (i : Given) (e f : End) : Type 0 where
+pub record EndsAlike (i : Given) (e f : End) : Type 0 where
   pub state : e .answer .state ≡ f .answer .state
   pub cells : e .cells ≡ f .cells
   pub cache : e .cache ≡ f .cache
@@ -116,4 +116,4 @@ abbrev pub However : Type 0
 However =
     (i : Given) (b : List ℕ) → Bytes (i .log) → Bytes b → (e f : End) → Ran i e → Ran (withLog b i) f
     → busOnly (recordsDone i e) ≡ busOnly (recordsDone (withLog b i) f)
-    → T (supposed i e) → T (supposed (withLog b i) f) → OneEnd i e f
+    → T (supposed i e) → T (supposed (withLog b i) f) → EndsAlike i e f

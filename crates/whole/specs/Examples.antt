@@ -38,8 +38,8 @@ oneEnd i =
     sameList (numbers (e .answer .state) (e .cells) (e .cache) (e .counts)) (numbers (m .state) (m .store .cells) (m .store .cache) (m .counts))
 
 -- the number of refusal; whether it begins at power-up or idle, is orderly, ends idle; and whether the two ends are one
-abbrev pub judged : Given → List ℕ
-judged i =
+abbrev pub verdicts : Given → List ℕ
+verdicts i =
     let e = endOf i in
     numberOf (e .answer .refusal) ∷ number (starts (i .state)) ∷ number (orderly (i .part) (machineOf i) (recordsDone i e)) ∷ number (idle (e .answer .state)) ∷ number (oneEnd i) ∷ []
 
@@ -68,14 +68,14 @@ driver =
 
 unfoldable pub rows : List Case
 rows =
-    1 · judged (on powerUp driver) ⇒ (0 ∷ 1 ∷ 1 ∷ 1 ∷ 1 ∷ [])
-    ∷ 2 · judged (on (powerUpAt false) (Units 7 ∷ Units 13 ∷ [])) ⇒ (0 ∷ 1 ∷ 1 ∷ 1 ∷ 1 ∷ [])
-    ∷ 3 · judged (on (workIn (Busy (Erase (record { 0 = 5 })) 30) (statusIn 1 enabled)) (Units 50 ∷ [])) ⇒ (0 ∷ 0 ∷ 1 ∷ 1 ∷ 0 ∷ [])
-    ∷ 4 · judged (on powerUp (send (0x06 ∷ []) ++ Units 20 ∷ [])) ⇒ (0 ∷ 1 ∷ 0 ∷ 1 ∷ 0 ∷ [])
-    ∷ 5 · judged (on enabled (erase ++ send (0xFF ∷ []))) ⇒ (0 ∷ 1 ∷ 0 ∷ 1 ∷ 0 ∷ [])
-    ∷ 6 · judged (on enabled (erase ++ Power ∷ Units 20 ∷ [])) ⇒ (0 ∷ 1 ∷ 0 ∷ 1 ∷ 0 ∷ [])
-    ∷ 7 · judged (on enabled erase) ⇒ (0 ∷ 1 ∷ 1 ∷ 0 ∷ 0 ∷ [])
-    ∷ 8 · (let i = on powerUp (Units 3 ∷ poll ++ Units 17 ∷ []) in judged i ++ take 3 (endOf i .out) ++ wholly i .output)
+    1 · verdicts (on powerUp driver) ⇒ (0 ∷ 1 ∷ 1 ∷ 1 ∷ 1 ∷ [])
+    ∷ 2 · verdicts (on (powerUpAt false) (Units 7 ∷ Units 13 ∷ [])) ⇒ (0 ∷ 1 ∷ 1 ∷ 1 ∷ 1 ∷ [])
+    ∷ 3 · verdicts (on (workIn (Busy (Erase (record { 0 = 5 })) 30) (statusIn 1 enabled)) (Units 50 ∷ [])) ⇒ (0 ∷ 0 ∷ 1 ∷ 1 ∷ 0 ∷ [])
+    ∷ 4 · verdicts (on powerUp (send (0x06 ∷ []) ++ Units 20 ∷ [])) ⇒ (0 ∷ 1 ∷ 0 ∷ 1 ∷ 0 ∷ [])
+    ∷ 5 · verdicts (on enabled (erase ++ send (0xFF ∷ []))) ⇒ (0 ∷ 1 ∷ 0 ∷ 1 ∷ 0 ∷ [])
+    ∷ 6 · verdicts (on enabled (erase ++ Power ∷ Units 20 ∷ [])) ⇒ (0 ∷ 1 ∷ 0 ∷ 1 ∷ 0 ∷ [])
+    ∷ 7 · verdicts (on enabled erase) ⇒ (0 ∷ 1 ∷ 1 ∷ 0 ∷ 0 ∷ [])
+    ∷ 8 · (let i = on powerUp (Units 3 ∷ poll ++ Units 17 ∷ []) in verdicts i ++ take 3 (endOf i .out) ++ wholly i .output)
     ⇒ (0 ∷ 1 ∷ 1 ∷ 1 ∷ 1 ∷ 0xFF ∷ 0xFF ∷ 0x01 ∷ 0xFF ∷ 0xFF ∷ 0x00 ∷ [])
     ∷ []
 

@@ -78,11 +78,11 @@ upTransfer t =
     not (t .selected) && eqb (t .count) 0 && is t noByte && eqb (t .first) 0 && eqb (t .second) 0 && eqb (t .third) 0 && eqb (t .column .0) 0
 
 -- the state is the power-up state, WP# at either level
-abbrev pub atPowerUp : State → Bool
-atPowerUp s = upRegisters (s .regs) && upTransfer (s .bus .transfer) && firstRead (s .work)
+abbrev pub powerUp? : State → Bool
+powerUp? s = upRegisters (s .regs) && upTransfer (s .bus .transfer) && firstRead (s .work)
 
 abbrev pub starts : State → Bool
-starts s = atPowerUp s || idle s
+starts s = powerUp? s || idle s
 
 -- ---- the output
 
