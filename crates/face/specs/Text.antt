@@ -15,6 +15,7 @@ pub record Meaning : Type 0 where
   pub number : ℕ
   pub words : String
 
+-- the two together, as a line of the table is written
 infix 70 _means_
 abbrev pub _means_ : ℕ → String → Meaning
 n means s = record { number = n; words = s }
