@@ -1,4 +1,5 @@
--- What is promised of the numbers: a state and a record go there and back, what stands in for no state is never sound, and every text has room in 48 bytes.
+-- What is promised of the numbers: a state and a record go there and back, what stands in for no state is never sound, and every text
+-- has room in 48 bytes.
 use mathlib.Core.Bool.{false}
 use mathlib.Core.Path.{_≡_}
 use Prim.Native.Nat.{ℕ, _<_}

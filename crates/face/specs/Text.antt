@@ -15,6 +15,7 @@ pub record Meaning : Type 0 where
   pub number : ℕ
   pub words : String
 
+-- the two together, as a line of the table is written
 infix 70 _means_
 abbrev pub _means_ : ℕ → String → Meaning
 n means s = record { number = n; words = s }
@@ -69,7 +70,8 @@ textLaid text out =
     if leb (length out) (length text) then faceLaid 0 out
     else faceLaid (length text) (text ++ (0 ∷ drop (length text + 1) out))
 
--- ---- how the code looks words up: in one table, the words for a number that has none first, then row by row a number and its words, a NUL behind all words
+-- ---- how the code looks words up: in one table of bytes. First the words for a number that has none, then row by row a number and its words;
+-- a NUL stands behind all words
 
 -- the bytes before the first NUL
 unfoldable pub upToNul : List ℕ → List ℕ
