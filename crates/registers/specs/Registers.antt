@@ -47,6 +47,7 @@ resetStatus c = c / 2 % 2 * 2
 
 -- ---- the write masks, and the values at power-up (C0h but for the OIP of the read that then begins)
 
+-- the part is named for a stepping with another mask; those there are have this one
 abbrev pub a0Mask : Geometry → ℕ
 a0Mask g = 0xBC
 
