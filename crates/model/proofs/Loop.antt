@@ -188,9 +188,10 @@ module _ (g : Geometry) (arr : Array) (log out₀ : List ℕ) (m₀ : Machine) w
     turn-leaves (Found e n) p =
         cond-keep (LeftBy w) (ltb (length out - w .written) (takes e))
         (λ k. going-full w out m h e n p (omega (arith, ltb-true (length out - w .written) (takes e) k, out-long w out m h)))
-        (λ k.
-            (further log (w .at) (h .inside) e n p .0,
-            going-next w out m h keeps e n p (byte-found log (w .at) bytes e n p) (omega (arith, ltb-false (length out - w .written) (takes e) k, out-long w out m h))))
+        (λ k. (
+          further log (w .at) (h .inside) e n p .0,
+          going-next w out m h keeps e n p (byte-found log (w .at) bytes e n p) (omega (arith, ltb-false (length out - w .written) (takes e) k, out-long w out m h)),
+        ))
 
     -- the same of what the code has: the machine behind a turn holds the state that came with it
     module _ (r : Went) (cells cache counts out₁ : List ℕ) (t : turned r (machine (stateAfter w r) cells cache counts) out₁ ≡ turnOf g arr w (nextOf log (w .at)) m out) where

@@ -1,4 +1,4 @@
--- What a porting team may rely on: where `judge` says that a log was orderly, its end is that of the whole run.
+-- Where `judge` says that a log was orderly, its end is that of the whole run.
 use mathlib.Core.Bool.{true}
 use mathlib.Core.Path.{_≡_, ap, sym, _∙_}
 use borrow.Fn.Kinds.{Dens, resT, endedOf}
@@ -6,11 +6,10 @@ use contract.Lifetimes.{Lfts}
 use denote.Ref.{now}
 use denote.Triple.Clauses.{AtExit}
 use Rattle.part.proofs.Choice.{true-T}
-use Rattle.buslog.specs.Log.{Bytes}
 use Rattle.model.specs.Runs.{End, seen}
-use Rattle.whole.specs.Demand.{Given, given, endOf, supposed, SameEnd}
+use Rattle.whole.specs.Demand.{Given, given, endOf, supposed}
 use Rattle.whole.proofs.Demand3.{demand-3}
-use Rattle.orderly.specs.Judge.{Judgement}
+use Rattle.orderly.specs.Judge.{Judgement, AboutJudge}
 use Rattle.orderly.proofs.judge.Reads as judge-reads
 use Rattle.orderly.proofs.judge.Kinds as judge-kinds
 
@@ -23,7 +22,7 @@ module _ (κs : Lfts 5) (a : Dens κs judge-kinds.ps) (x : resT judge-kinds.r κ
   abbrev returned : End
   returned = seen (x .answer) (now (s .1 .1 .1 .0)) (now (s .1 .1 .1 .1 .0)) (now (s .1 .1 .1 .1 .1 .0)) (now (s .1 .1 .1 .1 .1 .1 .0))
 
-  pub about-judge : judge-reads.Post κs a x s → Bytes (handed .log) → x .orderly ≡ true → SameEnd handed returned
+  pub about-judge : AboutJudge (judge-reads.Post κs a x s) handed returned (x .orderly)
   about-judge p h e =
       let r : returned ≡ endOf handed = ap (λ (j : Judgement). j .end) p in
       let t : supposed handed (endOf handed) ≡ true = sym (ap (λ (j : Judgement). j .orderly) p) ∙ e in

@@ -133,9 +133,10 @@ module _ (g : Geometry) (log out₀ : List ℕ) (m₀ : Machine) where
         let l = out-long g (stepping g) log out₀ m₀ w out m (h .going) in
         cond-keep (LeftBy (Found e n)) (ltb (length out - w .written) (takes e))
         (λ k. judging-full e n q (omega (arith, ltb-true (length out - w .written) (takes e) k, l)))
-        (λ k.
-            (further log (w .at) (h .going .inside) e n q .0,
-            judging-next e n q (byte-found log (w .at) b e n q) (omega (arith, ltb-false (length out - w .written) (takes e) k, l))))
+        (λ k. (
+          further log (w .at) (h .going .inside) e n q .0,
+          judging-next e n q (byte-found log (w .at) b e n q) (omega (arith, ltb-false (length out - w .written) (takes e) k, l)),
+        ))
 
     -- the same of what the code has
     module _ (b : Bytes log) (r : Went) (cells cache counts out₁ : List ℕ) (t : turned r (machine (stateAfter w r) cells cache counts) out₁ ≡ turnOf g (stepping g) w (nextOf log (w .at)) m out) where

@@ -2,7 +2,8 @@
 use mathlib.Core.Path.{ap, _∙_, sym}
 use denote.Ref.{now}
 use Rattle.part.specs.OneAnswer.{OneAnswer, OneEnd}
-use Rattle.model.proofs.OneAnswer.{Lent, lentOf, lent}
+use Rattle.walk.proofs.OneAnswer.{Lent, lent}
+use Rattle.model.proofs.OneAnswer.{lentOf}
 use Rattle.orderly.specs.declared.Judged.{Judged}
 use Rattle.orderly.specs.Judge.{Judgement}
 use Rattle.orderly.proofs.idle.Reads as idle-reads

@@ -1,14 +1,16 @@
 -- A log judged: what a run of it returns and leaves, and whether the suppositions of demand 3 were met.
 use mathlib.Core.Bool.{Bool, true, _&&_}
 use mathlib.Core.List.{List}
+use mathlib.Core.Path.{_≡_}
 use Prim.Native.Nat.{ℕ}
 use Rattle.model.specs.Runs.{End, seen}
+use Rattle.buslog.specs.Log.{Bytes}
 use Rattle.buslog.specs.declared.Next.{Next}
 use Rattle.buslog.specs.declared.Next.the-variants.{Found, Stop}
 use Rattle.device.specs.declared.State.{State}
 use Rattle.walk.specs.declared.Answer.{Answer}
 use Rattle.whole.specs.Orderly.{idle, allowed}
-use Rattle.whole.specs.Demand.{Given, endOf, supposed}
+use Rattle.whole.specs.Demand.{Given, endOf, supposed, SameEnd}
 use Rattle.orderly.specs.declared.Judged.{Judged}
 
 -- the end of a run, and the judgement on it
@@ -32,3 +34,8 @@ closed a ok = record { answer = a; orderly = ok && idle (a .state) }
 abbrev pub welcome : State → Next → Bool
 welcome s (Found e place) = allowed s e
 welcome s (Stop why) = true
+
+-- what a porting team may rely on: `post` is the `ensures` of `judge`, of what was handed in, what came back and the verdict. Where it says yes, the end is
+-- that of the whole run
+abbrev pub AboutJudge : Type 0 → Given → End → Bool → Type 0
+AboutJudge post i e ok = post → Bytes (i .log) → ok ≡ true → SameEnd i e

@@ -85,7 +85,10 @@ pub fn allowed(s: State, e: Record) -> bool
     let t = x.transfer;
     let rests = idle(s);
     match e {
-        Record::Shift(b) => either(either(either(rests, !first(x)), transfer::let_in(b)), unknown(b)),
+        Record::Shift(b) => either(
+            either(either(rests, !first(x)), transfer::let_in(b)),
+            unknown(b),
+        ),
         Record::Deselect => either(rests, !resetting(t)),
         Record::Power => rests,
         Record::Select => true,

@@ -78,6 +78,10 @@ pub record SameEnd (i : Given) (e : End) : Type 0 where
 abbrev pub Demand-3 : Type 0
 Demand-3 = (i : Given) → Bytes (i .log) → (e : End) → Ran i e → T (supposed i e) → SameEnd i e
 
+-- the same of a run itself: `post` is its contract's own `ensures`, of what was handed in and what came back
+abbrev pub AboutRun : Type 0 → Given → End → Type 0
+AboutRun post i e = post → Bytes (i .log) → T (supposed i e) → SameEnd i e
+
 -- where `run` gave 0, the records done are all the records of the log
 abbrev pub AllDone : Type 0
 AllDone = (i : Given) → Bytes (i .log) → (e : End) → Ran i e → numberOf (e .answer .refusal) ≡ 0 → recordsDone i e ≡ parse (i .log) .records

@@ -63,7 +63,7 @@ loop-less : tie.Need-loop-less Inv-loop μ-loop
 loop-less c = search needs
 
 loop-again : tie.Need-loop-again Inv-loop μ-loop
-loop-again c = 
+loop-again c =
     rw (c .next-column .ensures, c .before .byte-at .ensures)
     (moved (c .before .before .before .before .before .loop .inv) (c .before .before .before .before .loop-test .taken) (omega (arith, c .before .before .if1 .left)) refl
     (read-moves (c .before .before .before .before .before .before .before .before .before .before .before .args .s) (c .before .before .before .before .before .before .before .before .before .before .before .pre .0) (c .before .before .before .before .before .loop .c) (now (c .before .before .before .before .before .before .before .before .before .before .before .args .cache)) _ (c .before .before .before .before .before .before .before .before .before .before .before .pre .1)))

@@ -14,13 +14,13 @@ shared-slice-read-result : tie.Need-shared-slice-read-result
 shared-slice-read-result c = search needs
 
 returns : tie.Need-returns
-returns c = 
+returns c =
     let a = c .before .before .before .before .args in
     let h : c .before .before .before .before .args .c .0 < length (now (c .before .before .before .before .args .cache)) = rw (c .before .before .wide-short .ensures) at (c .before .if1 .taken) in
     rw (c .before .before .wide-short .ensures) (getD-any (now (a .cache)) (a .c .0) 0 0xFF h)
 
 returns-2 : tie.Need-returns-2
-returns-2 c = 
+returns-2 c =
     let h : length (now (c .before .before .before .args .cache)) ≤ c .before .before .before .args .c .0 = rw (c .before .wide-short .ensures) at (c .if1 .left) in
     rw (List·getD-eq-default (now (c .before .before .before .args .cache)) 0xFF h)
 

@@ -21,7 +21,7 @@ returns : tie.Need-returns
 returns c = rw (c .before .wide-short .ensures)
 
 returns-2 : tie.Need-returns-2
-returns-2 c = 
+returns-2 c =
     let h : length (now (c .before .before .before .args .cache)) ≤ c .before .before .before .args .c .0 = rw (c .before .wide-short .ensures) at (c .if1 .left) in
     rw (set-out (now (c .before .before .before .args .cache)) (c .before .before .before .args .c .0) (c .before .before .before .args .b) h)
 
