@@ -1,7 +1,7 @@
--- A run goes on behind a stream: each shift of it is a record of the log.
+-- A turn of the quick run, and a run that goes on behind a stream: each shift of it is a record of the log.
 use mathlib.Core.List.{List, _∷_, []}
 use mathlib.Core.Path.{_≡_, refl, sym, _∙_, subst, subst⁻¹}
-use Prim.Native.Nat.{ℕ, suc, _+_, _*_, _≤_, _<_}
+use Prim.Native.Nat.{ℕ, suc, _+_, _-_, _*_, _≤_, _<_}
 use native.Mathlib.Nat.{add-zero}
 use native.Mathlib.Numerals.{add-one}
 use native.Mathlib.Omega.{arith}
@@ -11,18 +11,21 @@ use Rattle.part.specs.declared.Geometry.{Geometry}
 use Rattle.buslog.specs.Log.{Bytes}
 use Rattle.buslog.specs.Read.{front, nextOf}
 use Rattle.buslog.specs.Write.{over}
+use Rattle.buslog.specs.declared.Record.{Record}
 use Rattle.buslog.specs.declared.Record.the-variants.{Shift}
 use Rattle.buslog.specs.declared.Next.the-variants.{Found}
 use Rattle.device.specs.Machine.{Machine, machine}
 use Rattle.device.specs.Work.{Array}
 use Rattle.device.specs.Instructions.{answer, shifts}
 use Rattle.device.specs.Step.{step}
+use Rattle.device.specs.declared.State.{State}
 use Rattle.kept.specs.Kept.{Keeps}
-use Rattle.walk.specs.Turns.{Stands, puts, behind}
+use Rattle.walk.specs.Turns.{takes, puts}
 use Rattle.walk.specs.declared.Walk.{Walk}
-use Rattle.walk.proofs.Turns.{over-one}
+use Rattle.walk.specs.declared.Went.the-variants.{On}
+use Rattle.walk.proofs.Turns.{over-one, turn-goes}
 use Rattle.stream.specs.Streams.{ShiftAt, byteIn, Shifted, none, more}
-use Rattle.model.proofs.Loop.{Going, going-next, out-long, byte-found}
+use Rattle.model.proofs.Loop.{Going, going-next, going-on, out-long, byte-found}
 use Rattle.quick.specs.Along.{shiftsOn, Along}
 
 -- a shift at a place is the next record
@@ -42,6 +45,14 @@ module _ (g : Geometry) (arr : Array) (log out₀ : List ℕ) (m₀ : Machine) (
   going-at : {v v′ : Walk} {out out′ : List ℕ} {m : Machine} → v′ ≡ v → out′ ≡ out → Going g arr log out₀ m₀ v out m → Going g arr log out₀ m₀ v′ out′ m
   going-at {v} {v′} {out} {out′} {m} e f h =
       subst⁻¹ (λ (x : Walk). Going g arr log out₀ m₀ x out′ m) e (subst⁻¹ (λ (x : List ℕ). Going g arr log out₀ m₀ v x m) f h)
+
+  -- behind a turn, further on
+  pub going-turn : (out : List ℕ) (m : Machine) → Going g arr log out₀ m₀ w out m → (e : Record) (place room : ℕ) → nextOf log (w .at) ≡ Found e place → room ≡ takes e → room ≤ length out - w .written
+      → (s : State) (cells cache counts out₁ : List ℕ) → machine s cells cache counts ≡ step g arr m e → out₁ ≡ over out (w .written) (puts g m e)
+      → (w .at < place) × Going g arr log out₀ m₀ (record { state = s; at = place; records = w .records + 1; written = w .written + room }) out₁ (machine s cells cache counts)
+  going-turn out m h e place room p q k s cells cache counts out₁ x y =
+      let v : Walk = record { state = s; at = place; records = w .records + 1; written = w .written + room } in
+      going-on g arr log out₀ m₀ keeps bytes w out m h (On v) cells cache counts out₁ (turn-goes g arr w (nextOf log (w .at)) m out e place room (machine s cells cache counts) out₁ p q k x y) v refl
 
   -- one shift more
   going-more : (k : ℕ) (m : Machine) (out : List ℕ) → Going g arr log out₀ m₀ (shiftsOn w (m .state) k) out m → ShiftAt log (w .at + 2 * k) → w .written + k < length out

@@ -9,11 +9,12 @@ ghost use Rattle.kept.specs.Kept.{SoundMachine};
 ghost use Rattle.walk.specs.Turns.{Stands};
 ghost use Rattle.model.specs.Runs.{ranOf, runOf, seen, shown};
 ghost use Rattle.quick.specs.Along.{Along};
+use buslog::Next;
 use device::State;
 use part::Geometry;
+use refusals::Refusal;
 use walk::Answer;
 use walk::Walk;
-use walk::Went;
 
 // A run behind the shifts that follow: in a stream all of them, and else none.
 fn along(g: Geometry, w: Walk, log: &[u8], cache: &mut [u8], out: &mut [u8]) -> Walk
@@ -21,6 +22,10 @@ fn along(g: Geometry, w: Walk, log: &[u8], cache: &mut [u8], out: &mut [u8]) -> 
     ensures { λ r. ⌜ Along g (now (log .entry)) w (now (cache .entry)) (now (out .entry)) r (now (cache .exit)) (now (out .exit)) ⌝ }
 {
     let s = w.state;
+    let x = s.bus;
+    if !stream::streams(x) {
+        return w;
+    }
     let b = stream::shifts(g, s, log, w.at, cache, out, w.written);
     let t = b.state;
     Walk {
@@ -31,7 +36,7 @@ fn along(g: Geometry, w: Walk, log: &[u8], cache: &mut [u8], out: &mut [u8]) -> 
     }
 }
 
-// The records of a log, one after another, and behind each the stream that follows it.
+// The records of a log, one after another, and behind each the stream that follows it. A turn is written out here, not called: so it costs no call.
 fn go(
     g: Geometry,
     state: State,
@@ -48,12 +53,26 @@ fn go(
 {
     let mut w = Walk::start(state);
     loop {
-        match walk::onward(g, w, log, cells, cache, counts, out) {
-            Went::On(next) => {
-                w = along(g, next, log, cache, out);
+        match buslog::next_at(log, w.at) {
+            Next::Stop(why) => {
+                return w.so_far(refusals::refusal_of(why));
             }
-            Went::Off(r) => {
-                return w.so_far(r);
+            Next::Found(e, place) => {
+                let room = walk::room_of(e);
+                if out.len() - w.written < room {
+                    return w.so_far(Refusal::NoRoom);
+                }
+                let records = w.records + 1;
+                let written = w.written + room;
+                let s = w.state;
+                let t = walk::turn(g, s, e, w.written, cells, cache, counts, out);
+                let next = Walk {
+                    state: t,
+                    at: place,
+                    records: records,
+                    written: written,
+                };
+                w = along(g, next, log, cache, out);
             }
         }
     }

@@ -9,13 +9,15 @@ use lib.Dec.{ltb}
 use lib.ListN.{length, set, length-set}
 use borrow.Author.Tests.{ltb-true, ltb-false}
 use denote.Ref.{now}
-use Rattle.part.specs.OneAnswer.{OneEnd}
+use Rattle.part.specs.OneAnswer.{OneAnswer, OneEnd}
 use Rattle.part.specs.declared.Geometry.{Geometry}
 use Rattle.device.specs.Machine.{Machine, machine, onCache}
 use Rattle.device.specs.Instructions.{answer, shifts}
 use Rattle.device.specs.declared.State.{State}
 use Rattle.stream.specs.Streams.{ShiftAt, byteIn, Shifted, none, more, Follows, streams, Streamed}
 use Rattle.stream.specs.declared.Stream.{Stream}
+use Rattle.stream.proofs.streams.Reads as streams-reads
+use Rattle.stream.proofs.streams.Kinds as streams-kinds
 use Rattle.stream.proofs.shifts.Reads as shifts-reads
 use Rattle.stream.proofs.shifts.Kinds as shifts-kinds
 
@@ -94,3 +96,6 @@ module _ (g : Geometry) (s : State) (log : List ℕ) (at written : ℕ) (cache o
 
 pub shifts-one : OneEnd 3 shifts-kinds.ps shifts-kinds.r Lent (λ κs s. lent (now (s .1 .1 .1 .1 .0)) (now (s .1 .1 .1 .1 .1 .0))) shifts-reads.Post
 shifts-one κs a x y s t p q = (one-stream _ _ _ _ _ _ _ p q, one-memory _ _ _ _ _ _ _ p q)
+
+pub streams-one : OneAnswer 0 streams-kinds.ps streams-kinds.r streams-reads.Post
+streams-one κs a x y s t p q = p ∙ sym q

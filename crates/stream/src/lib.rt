@@ -19,7 +19,7 @@ pub struct Stream {
 }
 
 // Whether a bus is in a stream: the fifth byte of its transfer has come, and it reads or loads the cache register.
-fn streams(x: Bus) -> bool
+pub fn streams(x: Bus) -> bool
     ensures { λ r. ⌜ r ≡ streams x ⌝ }
 {
     if !x.heard() {
