@@ -20,8 +20,8 @@ further log at e n h p =
     let k : suc (f .0) ≤ length log - at = rw (length-drop at log) at (front-found (drop at log) [] e (f .0) (f .1) .0) in
     (omega (arith, f .2), omega (arith, f .2))
 
-pub onward : (log : List ℕ) (at : ℕ) {m : Met} {e : Record} {n : ℕ} → at ≤ length log → m ≡ metOf log at → m .next ≡ Found e n → (at < m .place) × (m .place ≤ length log)
-onward log at {m} {e} {n} h p q =
+pub met-further : (log : List ℕ) (at : ℕ) {m : Met} {e : Record} {n : ℕ} → at ≤ length log → m ≡ metOf log at → m .next ≡ Found e n → (at < m .place) × (m .place ≤ length log)
+met-further log at {m} {e} {n} h p q =
     let found : nextOf log at ≡ Found e n = sym (ap (λ (k : Met). k .next) p) ∙ q in
     let there : m .place ≡ n = ap (λ (k : Met). k .place) p ∙ ap (λ (k : Next). afterOf k at) found in
     let f = further log at e n h found in
