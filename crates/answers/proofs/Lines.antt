@@ -9,8 +9,7 @@ use borrow.Author.Tests.{lt-ltb, le-ltb, ltb-true, ltb-false}
 use Rattle.part.specs.declared.Geometry.{Geometry}
 use Rattle.part.proofs.Choice.{cond-keep}
 use Rattle.buslog.specs.Log.{Bytes}
-use Rattle.buslog.specs.Read as Read
-use Rattle.buslog.specs.Read.{parse}
+use Rattle.buslog.specs.Read.{whyNumber, parse}
 use Rattle.buslog.specs.declared.Why.{Why}
 use Rattle.buslog.specs.declared.Why.the-variants as why
 use Rattle.buslog.specs.declared.Record.the-variants.{Shift}
@@ -39,7 +38,7 @@ module _ (g : Geometry) (arr : Array) (room : ℕ) (log : List ℕ) (m : Machine
   is-fine f = rw (checked-only g m Done f)
 
   -- 0, 6, 7 and 8: the records that stand before
-  pub is-stop : Fine g m → (w : Why) (s : Stops log room (Read.numberOf w)) → runOf g arr room log m ≡ did g arr m (refusalOf w) (s .earlier)
+  pub is-stop : Fine g m → (w : Why) (s : Stops log room (whyNumber w)) → runOf g arr room log m ≡ did g arr m (refusalOf w) (s .earlier)
   unfolding ranOf
   is-stop f w s = is-fine f ∙ rw (stops-parse log room w s, le-ltb room (shiftsIn (s .earlier)) (s .roomy), fitting-all room (s .earlier) (s .roomy))
 
@@ -88,7 +87,7 @@ module _ (g : Geometry) (arr : Array) (room : ℕ) (log : List ℕ) (m : Machine
   refused-line BadLevel p h = absurd h
   refused-line NoRoom p h = absurd h
 
-  stop-line : Fine g m → (w : Why) → Stops log room (Read.numberOf w) → Line g room log m (numberOf (refusalOf w))
+  stop-line : Fine g m → (w : Why) → Stops log room (whyNumber w) → Line g room log m (numberOf (refusalOf w))
   stop-line f why.End s = read-to-its-end f s
   stop-line f why.BadKind s = kind-not-in-table f s
   stop-line f why.ShortBody s = ends-inside-body f s

@@ -6,7 +6,7 @@ use native.Mathlib.Omega.{arith}
 use lib.Dec.{T}
 use lib.ListN.{length, drop}
 use Rattle.buslog.specs.Log.{written, levelsSound, Bytes}
-use Rattle.buslog.specs.Read.{numberOf, front, Parsed, parse, Ends, at-end, unknown-kind, short-body, too-high}
+use Rattle.buslog.specs.Read.{whyNumber, front, Parsed, parse, Ends, at-end, unknown-kind, short-body, too-high}
 use Rattle.buslog.specs.declared.Why.{Why}
 use Rattle.buslog.specs.declared.Record.{Record}
 use Rattle.buslog.specs.declared.Record.the-variants.{Select, Shift, Deselect, Units, Level, Power}
@@ -53,7 +53,7 @@ ends-number (too-high e) = (λ a b. omega arith, omega arith)
 
 module _ (log : List ℕ) (room : ℕ) where
   -- what is read of a log that stops, and of one that is full
-  pub stops-parse : (w : Why) (s : Stops log room (numberOf w)) → parse log ≡ record { records = s .earlier; used = length (written (s .earlier)); why = w }
+  pub stops-parse : (w : Why) (s : Stops log room (whyNumber w)) → parse log ≡ record { records = s .earlier; used = length (written (s .earlier)); why = w }
   stops-parse w s =
       ap parse (s .splits) ∙ parse-written-front (s .earlier) (s .levels) (s .rest)
       ∙ ap (joined (s .earlier) (length (written (s .earlier)))) (parse-ends (s .rest) w (as-front-ends (s .rest) w (s .next)))
@@ -67,7 +67,7 @@ module _ (log : List ℕ) (room : ℕ) where
       ∙ ap (λ (p : Parsed). s .earlier ++ p .records) (parse-found (2 ∷ s .byte ∷ s .rest) (Shift (s .byte)) 1 refl)
 
   -- and every log is one of the two
-  pub parse-stops : Bytes log → shiftsIn (parse log .records) ≤ room → Stops log room (numberOf (parse log .why))
+  pub parse-stops : Bytes log → shiftsIn (parse log .records) ≤ room → Stops log room (whyNumber (parse log .why))
   parse-stops h k =
       record {
         earlier = parse log .records;

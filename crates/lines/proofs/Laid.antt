@@ -10,7 +10,7 @@ use lib.ListN.{length, take, drop, length-append, length-drop}
 use lib.Seq.{take-at, drop-at, drop-drop, length-take-le}
 use borrow.Author.Tests.{lt-ltb, le-ltb, ltb-false}
 use Rattle.buslog.specs.declared.Record.{Record}
-use Rattle.lines.specs.Lines.{space, newline, digits, places, decimal, ended, hex, fieldsOf, lineOf, word, endOf, Laid, laid, laidOf}
+use Rattle.lines.specs.Lines.{space, newline, digits, places, decimal, decimalThen, hex, fieldsOf, lineOf, word, endOf, Laid, laid, laidOf}
 use Rattle.lines.proofs.Texts.{length-digits}
 
 -- ---- how long the texts are
@@ -25,9 +25,9 @@ unfolding places
 places-most n =
     either (ltb n 10) 1 _ (lit≤ tt) (either (ltb n 100) 2 _ (lit≤ tt) (either (ltb n 1000) 3 _ (lit≤ tt) (either (ltb n 10000) 4 5 (lit≤ tt) (lit≤ tt))))
 
-pub length-ended : (n last : ℕ) → length (ended n last) ≡ places n + 1
+pub length-decimal-then : (n last : ℕ) → length (decimalThen n last) ≡ places n + 1
 unfolding decimal
-length-ended n last = rw (length-append (digits (places n) n) (last ∷ []), length-digits (places n) n)
+length-decimal-then n last = rw (length-append (digits (places n) n) (last ∷ []), length-digits (places n) n)
 
 pub length-fields : (e : Record) (o : Option ℕ) (status : ℕ) → length (fieldsOf e o status) ≡ 8
 unfolding fieldsOf hex
@@ -36,12 +36,12 @@ length-fields e (some d) status = refl
 
 pub length-line : (number : ℕ) (e : Record) (o : Option ℕ) (status : ℕ) → length (lineOf number e o status) ≡ places number + 1 + 8
 unfolding lineOf
-length-line number e o status = rw (length-append (ended number space) (fieldsOf e o status), length-ended number space, length-fields e o status)
+length-line number e o status = rw (length-append (decimalThen number space) (fieldsOf e o status), length-decimal-then number space, length-fields e o status)
 
 pub length-end : (refusal records : ℕ) → length (endOf refusal records) ≡ 4 + places refusal + 1 + places records + 1
 unfolding endOf
 length-end refusal records =
-    rw (length-append (word ++ ended refusal space) (ended records newline), length-append word (ended refusal space), length-ended refusal space, length-ended records newline) (omega arith)
+    rw (length-append (word ++ decimalThen refusal space) (decimalThen records newline), length-append word (decimalThen refusal space), length-decimal-then refusal space, length-decimal-then records newline) (omega arith)
 
 -- ---- stretches
 
@@ -57,7 +57,7 @@ laid-long : (a l m : List ℕ) (k : ℕ) → length a ≡ k → k ≤ length l �
 laid-long a l m k p h e = rw (e, length-append a (drop k l), length-drop k l) (omega arith)
 
 -- a number stored in a stretch of just its length
-stored : (l x : List ℕ) (j k n last : ℕ) → k ≡ j + places n + 1 → k ≤ length l → x ≡ digits (length (take (k - j) (drop j l)) - 1) n ++ (last ∷ []) → x ≡ ended n last
+stored : (l x : List ℕ) (j k n last : ℕ) → k ≡ j + places n + 1 → k ≤ length l → x ≡ digits (length (take (k - j) (drop j l)) - 1) n ++ (last ∷ []) → x ≡ decimalThen n last
 unfolding decimal
 stored l x j k n last p h e =
     let s : length (drop j l) ≡ length l - j = length-drop j l in
@@ -85,10 +85,10 @@ module _ (l x y : List ℕ) (p number : ℕ) (e : Record) (o : Option ℕ) (stat
       → laid (p + 1 + 8) (take (p + 1) numbered ++ (y ++ drop (p + 1 + 8 - (p + 1)) (drop (p + 1) numbered))) ≡ laidOf (lineOf number e o status) l
   unfolding lineOf
   line-laid q h a b =
-      let a′ : x ≡ ended number space = stored l x 0 (p + 1) number space (omega arith) (omega arith) a in
+      let a′ : x ≡ decimalThen number space = stored l x 0 (p + 1) number space (omega arith) (omega arith) a in
       let long : length (lineOf number e o status) ≡ p + 1 + 8 = length-line number e o status ∙ rw q in
-      let m : numbered ≡ ended number space ++ drop (p + 1) l = rw a′ (lay [] (ended number space) l l 0 (p + 1) refl (omega (arith, length-ended number space)) refl) in
-      rw b (ap (laid (p + 1 + 8)) (lay (ended number space) (fieldsOf e o status) l numbered (p + 1) (p + 1 + 8) (omega (arith, length-ended number space)) (sym long) m)
+      let m : numbered ≡ decimalThen number space ++ drop (p + 1) l = rw a′ (lay [] (decimalThen number space) l l 0 (p + 1) refl (omega (arith, length-decimal-then number space)) refl) in
+      rw b (ap (laid (p + 1 + 8)) (lay (decimalThen number space) (fieldsOf e o status) l numbered (p + 1) (p + 1 + 8) (omega (arith, length-decimal-then number space)) (sym long) m)
       ∙ fits (lineOf number e o status) l (p + 1 + 8) long h)
 
 module _ (l w x y : List ℕ) (p q refusal records : ℕ) where
@@ -105,16 +105,16 @@ module _ (l w x y : List ℕ) (p q refusal records : ℕ) where
       → laid (4 + p + 1 + q + 1) (take (4 + p + 1) refused ++ (y ++ drop (4 + p + 1 + q + 1 - (4 + p + 1)) (drop (4 + p + 1) refused))) ≡ laidOf (endOf refusal records) l
   unfolding endOf
   end-laid r s h z a b =
-      let front : List ℕ = word ++ ended refusal space in
+      let front : List ℕ = word ++ decimalThen refusal space in
       let w′ : worded ≡ word ++ drop 4 l = rw z in
       let w-long : length worded ≡ length l = laid-long word l worded 4 refl (omega arith) w′ in
-      let a′ : x ≡ ended refusal space = stored worded x 4 (4 + p + 1) refusal space (omega arith) (omega arith) a in
-      let k-long : length (word ++ ended refusal space) ≡ 4 + p + 1 = rw (length-append word (ended refusal space), length-ended refusal space) (omega arith) in
-      let m : refused ≡ (word ++ ended refusal space) ++ drop (4 + p + 1) l = rw a′ (lay word (ended refusal space) l worded 4 (4 + p + 1) refl (sym k-long) w′) in
+      let a′ : x ≡ decimalThen refusal space = stored worded x 4 (4 + p + 1) refusal space (omega arith) (omega arith) a in
+      let k-long : length (word ++ decimalThen refusal space) ≡ 4 + p + 1 = rw (length-append word (decimalThen refusal space), length-decimal-then refusal space) (omega arith) in
+      let m : refused ≡ (word ++ decimalThen refusal space) ++ drop (4 + p + 1) l = rw a′ (lay word (decimalThen refusal space) l worded 4 (4 + p + 1) refl (sym k-long) w′) in
       let m-long : length refused ≡ length l = laid-long front l refused (4 + p + 1) k-long (omega arith) m in
-      let b′ : y ≡ ended records newline = stored refused y (4 + p + 1) (4 + p + 1 + q + 1) records newline (omega arith) (omega arith) b in
+      let b′ : y ≡ decimalThen records newline = stored refused y (4 + p + 1) (4 + p + 1 + q + 1) records newline (omega arith) (omega arith) b in
       let long : length (endOf refusal records) ≡ 4 + p + 1 + q + 1 = length-end refusal records ∙ rw (r, s) in
-      rw b′ (ap (laid (4 + p + 1 + q + 1)) (lay front (ended records newline) l refused (4 + p + 1) (4 + p + 1 + q + 1) (sym k-long) (sym long) m)
+      rw b′ (ap (laid (4 + p + 1 + q + 1)) (lay front (decimalThen records newline) l refused (4 + p + 1) (4 + p + 1 + q + 1) (sym k-long) (sym long) m)
       ∙ fits (endOf refusal records) l (4 + p + 1 + q + 1) long h)
 
 -- the length that is answered lies within the memory

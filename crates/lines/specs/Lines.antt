@@ -39,9 +39,9 @@ places n =
 unfoldable pub decimal : ℕ → List ℕ
 decimal n = digits (places n) n
 
--- the same with one character behind it
-abbrev pub ended : ℕ → ℕ → List ℕ
-ended n last = decimal n ++ (last ∷ [])
+-- the same, then one character
+abbrev pub decimalThen : ℕ → ℕ → List ℕ
+decimalThen n last = decimal n ++ (last ∷ [])
 
 -- ---- bytes in hex
 
@@ -84,7 +84,7 @@ fieldsOf e d status = letterOf e ∷ space ∷ (doText d ++ (space ∷ (hex stat
 
 -- the line of a record: its number, a space, and the fields
 unfoldable pub lineOf : ℕ → Record → Option ℕ → ℕ → List ℕ
-lineOf number e d status = ended number space ++ fieldsOf e d status
+lineOf number e d status = decimalThen number space ++ fieldsOf e d status
 
 -- `end` and a space
 abbrev pub word : List ℕ
@@ -92,7 +92,7 @@ word = 0x65 ∷ 0x6E ∷ 0x64 ∷ space ∷ []
 
 -- the last line: `end`, the refusal number, the records done
 unfoldable pub endOf : ℕ → ℕ → List ℕ
-endOf refusal records = word ++ ended refusal space ++ ended records newline
+endOf refusal records = word ++ decimalThen refusal space ++ decimalThen records newline
 
 -- ---- a line in lent memory
 

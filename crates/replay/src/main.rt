@@ -52,7 +52,7 @@ fn finish(
     print_end(refusals::number_of(r), records);
 }
 
-// The log, record by record, from power-up.
+// The log, met record by record by the reader, from power-up.
 fn replay(log: &[u8], cells: &mut [u8], cache: &mut [u8], counts: &mut [u8])
     requires { ⌜ length (now log) ≤ 4096 ⌝ }
 {
@@ -60,12 +60,15 @@ fn replay(log: &[u8], cells: &mut [u8], cache: &mut [u8], counts: &mut [u8])
     let mut at = 0;
     let mut records: u16 = 0;
     loop {
-        match buslog::next_at(log, at) {
+        let m = reader::meet(log, at);
+        let next = m.next;
+        let place = m.place;
+        match next {
             Next::Stop(_) => {
                 finish(s, &log[at..], records, cells, cache, counts);
                 return;
             }
-            Next::Found(e, place) => {
+            Next::Found(e, _) => {
                 s = turn(s, &log[at..place], e, records, cells, cache, counts);
                 at = place;
                 records += 1;

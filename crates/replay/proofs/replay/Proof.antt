@@ -1,11 +1,10 @@
 -- The place stays within the log and goes on with each record; no more records are done than bytes are passed.
-use mathlib.Core.Path.{_≡_, refl, sym, _∙_}
+use mathlib.Core.Path.{_≡_, refl, _∙_}
 use Prim.Native.Nat.{_-_, _≤_}
 use native.Mathlib.Omega.{arith}
 use borrow.Author.Needs.{needs}
-use denote.Ref.{now}
 use lib.ListN.{length}
-use Rattle.replay.proofs.Places.{further}
+use Rattle.replay.proofs.Places.{met-further}
 use Rattle.replay.proofs.replay.Statement.{statement}
 use Rattle.replay.proofs.replay.Tie as tie
 
@@ -21,8 +20,8 @@ power-up-requires c κs = search needs
 loop-holds : tie.Need-loop-holds Inv-loop μ-loop
 loop-holds c = (omega arith, omega arith, refl, refl, refl)
 
-next-at-requires : tie.Need-next-at-requires Inv-loop μ-loop
-next-at-requires c κs = search needs
+meet-requires : tie.Need-meet-requires Inv-loop μ-loop
+meet-requires c κs = search needs
 
 enum-told : tie.Need-enum-told Inv-loop μ-loop
 enum-told c = search needs
@@ -51,17 +50,17 @@ same-length-3 c = c .before .before .before .before .before .before .finish .kep
 returns : tie.Need-returns Inv-loop μ-loop
 returns c = search needs
 
-enum-known-e : tie.Need-enum-known-e Inv-loop μ-loop
-enum-known-e c = search needs
+enum-known-next : tie.Need-enum-known-next Inv-loop μ-loop
+enum-known-next c = search needs
 
 sub-turn : tie.Need-sub-turn Inv-loop μ-loop
-sub-turn c = omega (arith, further (now (c .before .before .before .before .before .before .before .before .before .before .args .log)) (c .before .before .before .before .loop .at) (c .before .e .given .0 .0) (c .before .e .given .0 .1 .0) (c .before .before .before .before .loop .inv .0) (sym (c .before .before .before .next-at .ensures) ∙ c .before .e .given .1))
+sub-turn c = omega (arith, met-further _ _ (c .before .before .before .before .loop .inv .0) (c .before .before .before .meet .ensures) (c .before .next .given .1))
 
 part-turn-start : tie.Need-part-turn-start Inv-loop μ-loop
-part-turn-start c = omega (arith, further (now (c .before .before .before .before .before .before .before .before .before .before .args .log)) (c .before .before .before .before .loop .at) (c .before .e .given .0 .0) (c .before .e .given .0 .1 .0) (c .before .before .before .before .loop .inv .0) (sym (c .before .before .before .next-at .ensures) ∙ c .before .e .given .1))
+part-turn-start c = omega (arith, met-further _ _ (c .before .before .before .before .loop .inv .0) (c .before .before .before .meet .ensures) (c .before .next .given .1))
 
 part-turn-end : tie.Need-part-turn-end Inv-loop μ-loop
-part-turn-end c = omega (arith, further (now (c .before .before .before .before .before .before .before .before .before .before .args .log)) (c .before .before .before .before .loop .at) (c .before .e .given .0 .0) (c .before .e .given .0 .1 .0) (c .before .before .before .before .loop .inv .0) (sym (c .before .before .before .next-at .ensures) ∙ c .before .e .given .1))
+part-turn-end c = omega (arith, met-further _ _ (c .before .before .before .before .loop .inv .0) (c .before .before .before .meet .ensures) (c .before .next .given .1))
 
 turn-requires : tie.Need-turn-requires Inv-loop μ-loop
 turn-requires c κs = search needs
@@ -70,11 +69,11 @@ add-records : tie.Need-add-records Inv-loop μ-loop
 add-records c = omega (arith, c .before .before .before .before .before .before .before .before .before .before .before .before .before .before .before .before .before .before .before .before .before .pre, c .before .before .before .before .before .before .before .before .before .before .before .before .before .before .before .loop .inv)
 
 loop-less : tie.Need-loop-less Inv-loop μ-loop
-loop-less c = omega (arith, further (now (c .before .before .before .before .before .before .before .before .before .before .before .before .before .before .before .before .before .before .before .before .before .args .log)) (c .before .before .before .before .before .before .before .before .before .before .before .before .before .before .before .loop .at) (c .before .before .before .before .before .before .before .before .before .before .before .before .e .given .0 .0) (c .before .before .before .before .before .before .before .before .before .before .before .before .e .given .0 .1 .0) (c .before .before .before .before .before .before .before .before .before .before .before .before .before .before .before .loop .inv .0) (sym (c .before .before .before .before .before .before .before .before .before .before .before .before .before .before .next-at .ensures) ∙ c .before .before .before .before .before .before .before .before .before .before .before .before .e .given .1))
+loop-less c = omega (arith, met-further _ _ (c .before .before .before .before .before .before .before .before .before .before .before .before .before .before .before .loop .inv .0) (c .before .before .before .before .before .before .before .before .before .before .before .before .before .before .meet .ensures) (c .before .before .before .before .before .before .before .before .before .before .before .before .next .given .1))
 
 loop-again : tie.Need-loop-again Inv-loop μ-loop
 loop-again c =
-    let f = further (now (c .before .before .before .before .before .before .before .before .before .before .before .before .before .before .before .before .before .before .before .before .before .args .log)) (c .before .before .before .before .before .before .before .before .before .before .before .before .before .before .before .loop .at) (c .before .before .before .before .before .before .before .before .before .before .before .before .e .given .0 .0) (c .before .before .before .before .before .before .before .before .before .before .before .before .e .given .0 .1 .0) (c .before .before .before .before .before .before .before .before .before .before .before .before .before .before .before .loop .inv .0) (sym (c .before .before .before .before .before .before .before .before .before .before .before .before .before .before .next-at .ensures) ∙ c .before .before .before .before .before .before .before .before .before .before .before .before .e .given .1) in
+    let f = met-further _ _ (c .before .before .before .before .before .before .before .before .before .before .before .before .before .before .before .loop .inv .0) (c .before .before .before .before .before .before .before .before .before .before .before .before .before .before .meet .ensures) (c .before .before .before .before .before .before .before .before .before .before .before .before .next .given .1) in
     (f .1, omega (arith, f .0, c .before .before .before .before .before .before .before .before .before .before .before .before .before .before .before .loop .inv .1), c .before .before .before .before .before .before .turn .kept .1 .1 .1 .1 .0 ∙ c .before .before .before .before .before .before .before .before .before .before .before .before .before .before .before .loop .inv .2, c .before .before .before .before .before .before .turn .kept .1 .1 .1 .1 .1 .0 ∙ c .before .before .before .before .before .before .before .before .before .before .before .before .before .before .before .loop .inv .3, c .before .before .before .before .before .before .turn .kept .1 .1 .1 .1 .1 .1 .0 ∙ c .before .before .before .before .before .before .before .before .before .before .before .before .before .before .before .loop .inv .4)
 
 pub replay-spec : {M : Type 1} → statement M
@@ -85,7 +84,7 @@ replay-spec =
     μ-loop
     power-up-requires
     loop-holds
-    next-at-requires
+    meet-requires
     enum-told
     sub-finish
     part-finish-start
@@ -95,7 +94,7 @@ replay-spec =
     same-length-2
     same-length-3
     returns
-    enum-known-e
+    enum-known-next
     sub-turn
     part-turn-start
     part-turn-end
