@@ -24,21 +24,16 @@ use Rattle.walk.specs.Turns.{takes, puts}
 use Rattle.walk.specs.declared.Walk.{Walk}
 use Rattle.walk.specs.declared.Went.the-variants.{On}
 use Rattle.walk.proofs.Turns.{over-one, turn-goes}
-use Rattle.stream.specs.Streams.{ShiftAt, byteIn, Shifted, none, more}
+use Rattle.stream.specs.Streams.{ShiftAt, byteIn, Shifted, none, more, Streamed}
+use Rattle.stream.specs.declared.Stream.{Stream}
 use Rattle.model.proofs.Loop.{Going, going-next, going-on, out-long, byte-found}
-use Rattle.quick.specs.Along.{shiftsOn, Along}
+use Rattle.quick.specs.Along.{walkAt, shiftsOn}
 
 -- a shift at a place is the next record
 shift-next : (log : List ℕ) (place : ℕ) → ShiftAt log place → nextOf log place ≡ Found (Shift (byteIn log place)) (place + 2)
 unfolding nextOf front
 shift-next log place h =
     rw (add-one place, drop-cons log place 0 (omega (arith, h .inside)), drop-cons log (suc place) 0 (omega (arith, h .inside)), h .kind)
-
--- shifts stand within the log and their bytes within the output
-pub shifted-within : {g : Geometry} {log : List ℕ} {at written : ℕ} {m₀ : Machine} {out₀ : List ℕ} {k : ℕ} {m : Machine} {out : List ℕ} → at ≤ length log → written ≤ length out₀
-    → Shifted g log at written m₀ out₀ k m out → (at + 2 * k ≤ length log) × (written + k ≤ length out₀) × (length out ≡ length out₀)
-shifted-within i j none = (omega arith, omega arith, refl)
-shifted-within i j (more {k} {m} {out} d a z) = let h = shifted-within i j d in (omega (arith, a .inside), omega (arith, h .2, z), simp length-set (h .2))
 
 module _ (g : Geometry) (arr : Array) (log out₀ : List ℕ) (m₀ : Machine) (keeps : Keeps g arr) (bytes : Bytes log) (w : Walk) where
   -- the same, of what is equal
@@ -49,9 +44,9 @@ module _ (g : Geometry) (arr : Array) (log out₀ : List ℕ) (m₀ : Machine) (
   -- behind a turn, further on
   pub going-turn : (out : List ℕ) (m : Machine) → Going g arr log out₀ m₀ w out m → (e : Record) (place room : ℕ) → nextOf log (w .at) ≡ Found e place → room ≡ takes e → room ≤ length out - w .written
       → (s : State) (cells cache counts out₁ : List ℕ) → machine s cells cache counts ≡ step g arr m e → out₁ ≡ over out (w .written) (puts g m e)
-      → (w .at < place) × Going g arr log out₀ m₀ (record { state = s; at = place; records = w .records + 1; written = w .written + room }) out₁ (machine s cells cache counts)
+      → (w .at < place) × Going g arr log out₀ m₀ (walkAt s place (w .records + 1) (w .written + room)) out₁ (machine s cells cache counts)
   going-turn out m h e place room p q k s cells cache counts out₁ x y =
-      let v : Walk = record { state = s; at = place; records = w .records + 1; written = w .written + room } in
+      let v : Walk = walkAt s place (w .records + 1) (w .written + room) in
       going-on g arr log out₀ m₀ keeps bytes w out m h (On v) cells cache counts out₁ (turn-goes g arr w (nextOf log (w .at)) m out e place room (machine s cells cache counts) out₁ p q k x y) v refl
 
   -- one shift more
@@ -76,8 +71,7 @@ module _ (g : Geometry) (arr : Array) (log out₀ : List ℕ) (m₀ : Machine) (
   going-shifts e h (more {k} {m} {out} d a z) = going-more k m out (going-shifts e h d) a z
 
   -- behind a stream, and no further back
-  pub going-along : (cells cache counts out : List ℕ) (w₁ : Walk) (cache₁ out₁ : List ℕ) → Along g log w cache out w₁ cache₁ out₁
+  pub going-along : (cells cache counts out : List ℕ) (r : Stream) (cache₁ out₁ : List ℕ) → Streamed g (w .state) log (w .at) (w .written) cache out r cache₁ out₁
       → Going g arr log out₀ m₀ w out (machine (w .state) cells cache counts)
-      → (w .at ≤ w₁ .at) × Going g arr log out₀ m₀ w₁ out₁ (machine (w₁ .state) cells cache₁ counts)
-  going-along cells cache counts out w₁ cache₁ out₁ a h =
-      (rw (a .walk) (omega arith), going-at (a .walk) refl (going-shifts refl h (a .done (machine (w .state) cells cache counts))))
+      → Going g arr log out₀ m₀ (shiftsOn w (r .state) (r .count)) out₁ (machine (r .state) cells cache₁ counts)
+  going-along cells cache counts out r cache₁ out₁ a h = going-shifts refl h (a .done (machine (w .state) cells cache counts))

@@ -6,9 +6,9 @@ ghost use Rattle.buslog.specs.Read.{parse};
 ghost use Rattle.device.specs.Machine.{machine};
 ghost use Rattle.device.specs.Work.{stepping};
 ghost use Rattle.kept.specs.Kept.{SoundMachine};
-ghost use Rattle.walk.specs.Turns.{Stands};
+ghost use Rattle.walk.specs.Turns.{answered};
 ghost use Rattle.model.specs.Runs.{ranOf, runOf, seen, shown};
-ghost use Rattle.quick.specs.Along.{Along};
+ghost use Rattle.quick.specs.Along.{walkAt};
 use buslog::Next;
 use device::State;
 use part::Geometry;
@@ -16,27 +16,21 @@ use refusals::Refusal;
 use walk::Answer;
 use walk::Walk;
 
-// A run behind the shifts that follow: in a stream all of them, and else none.
-fn along(g: Geometry, w: Walk, log: &[u8], cache: &mut [u8], out: &mut [u8]) -> Walk
-    requires { ⌜ Stands w (now log) (now out) ⌝ }
-    ensures { λ r. ⌜ Along g (now (log .entry)) w (now (cache .entry)) (now (out .entry)) r (now (cache .exit)) (now (out .exit)) ⌝ }
+// What was done so far, and why no more is.
+fn so_far(r: Refusal, s: State, at: usize, records: usize, written: usize) -> Answer
+    ensures { λ a. ⌜ a ≡ answered r (walkAt s at records written) ⌝ }
 {
-    let s = w.state;
-    let x = s.bus;
-    if !stream::streams(x) {
-        return w;
-    }
-    let b = stream::shifts(g, s, log, w.at, cache, out, w.written);
-    let t = b.state;
-    Walk {
-        state: t,
-        at: w.at + 2 * b.count,
-        records: w.records + b.count,
-        written: w.written + b.count,
-    }
+    let w = Walk {
+        state: s,
+        at: at,
+        records: records,
+        written: written,
+    };
+    w.so_far(r)
 }
 
-// The records of a log, one after another, and behind each the stream that follows it. A turn is written out here, not called: so it costs no call.
+// The records of a log, one after another, and behind each the stream that follows it. Where the run stands is kept in plain numbers here, and a turn is
+// written out: both for speed.
 fn go(
     g: Geometry,
     state: State,
@@ -51,28 +45,33 @@ fn go(
         ⌜ seen r (now (cells .exit)) (now (cache .exit)) (now (counts .exit)) (now (out .exit))
         ≡ shown (ranOf g (stepping g) (length (now (out .entry))) (parse (now (log .entry))) (machine state (now (cells .entry)) (now (cache .entry)) (now (counts .entry)))) (now (out .entry)) ⌝ }
 {
-    let mut w = Walk::start(state);
+    let mut s = state;
+    let mut at = 0;
+    let mut records = 0;
+    let mut written = 0;
     loop {
-        match buslog::next_at(log, w.at) {
+        match buslog::next_at(log, at) {
             Next::Stop(why) => {
-                return w.so_far(refusals::refusal_of(why));
+                return so_far(refusals::refusal_of(why), s, at, records, written);
             }
             Next::Found(e, place) => {
                 let room = walk::room_of(e);
-                if out.len() - w.written < room {
-                    return w.so_far(Refusal::NoRoom);
+                if out.len() - written < room {
+                    return so_far(Refusal::NoRoom, s, at, records, written);
                 }
-                let records = w.records + 1;
-                let written = w.written + room;
-                let s = w.state;
-                let t = walk::turn(g, s, e, w.written, cells, cache, counts, out);
-                let next = Walk {
-                    state: t,
-                    at: place,
-                    records: records,
-                    written: written,
-                };
-                w = along(g, next, log, cache, out);
+                s = walk::turn(g, s, e, written, cells, cache, counts, out);
+                at = place;
+                records += 1;
+                written += room;
+                if !stream::streams(s.bus) {
+                    continue;
+                }
+                let b = stream::shifts(g, s, log, at, cache, out, written);
+                let t = b.state;
+                s = t;
+                at += 2 * b.count;
+                records += b.count;
+                written += b.count;
             }
         }
     }
