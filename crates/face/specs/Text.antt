@@ -70,8 +70,8 @@ textLaid text out =
     if leb (length out) (length text) then faceLaid 0 out
     else faceLaid (length text) (text ++ (0 ∷ drop (length text + 1) out))
 
--- ---- how the code looks words up: in one table of bytes. First the words for a number that has none, then row by row a number and its words;
--- a NUL stands behind all words
+-- ---- how the code looks words up: in one table of bytes. First the words for a number that has none, then row by row a number and its
+-- words; a NUL stands behind all words
 
 -- the bytes before the first NUL
 unfoldable pub upToNul : List ℕ → List ℕ

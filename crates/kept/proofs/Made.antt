@@ -1,4 +1,5 @@
--- Where each record of the lengths and of a sound machine is made, all its fields said: a field more is a change here and where it is given.
+-- Where each record of the lengths and of a sound machine is made, all its fields said: a field more is a change here and where it is
+-- given.
 use mathlib.Core.List.{List}
 use mathlib.Core.Path.{_≡_}
 use Prim.Native.Nat.{ℕ, _*_}

@@ -1,4 +1,5 @@
--- A run: the checks 1 to 5, then the records of the log as far as they can be read and their output has room; and what every buffer then holds.
+-- A run: the checks 1 to 5, then the records of the log as far as they can be read and their output has room; and what every buffer then
+-- holds.
 use mathlib.Core.List.{List, [], _∷_, _++_}
 use Prim.Native.Nat.{ℕ, _+_, _-_}
 use lib.Dec.{ltb}

@@ -35,7 +35,7 @@ abbrev pub welcome : State → Next → Bool
 welcome s (Found e place) = allowed s e
 welcome s (Stop why) = true
 
--- what a porting team may rely on: `post` is the `ensures` of `judge`, of what was handed in, what came back and the verdict. Where it says yes, the end is
--- that of the whole run
+-- what a porting team may rely on: `post` is the `ensures` of `judge`, of what was handed in, what came back and the verdict. Where it
+-- says yes, the end is that of the whole run
 abbrev pub AboutJudge : Type 0 → Given → End → Bool → Type 0
 AboutJudge post i e ok = post → Bytes (i .log) → ok ≡ true → SameEnd i e

@@ -29,8 +29,8 @@ fn so_far(r: Refusal, s: State, at: usize, records: usize, written: usize) -> An
     w.so_far(r)
 }
 
-// The records of a log, one after another, and behind each the stream that follows it. Where the run stands is kept in plain numbers here, and a turn is
-// written out: both for speed.
+// The records of a log, one after another, and behind each the stream that follows it. Where the run stands is kept in plain numbers here,
+// and a turn is written out: both for speed.
 fn go(
     g: Geometry,
     state: State,

@@ -1,5 +1,5 @@
--- What is promised of a run in numbers: those that stand for no state are refused in the paper's order, and an event needs no output but for
--- a shift.
+-- What is promised of a run in numbers: those that stand for no state are refused in the paper's order, and an event needs no output but
+-- for a shift.
 use mathlib.Core.Bool.{not}
 use mathlib.Core.List.{List}
 use mathlib.Core.Path.{_≡_}

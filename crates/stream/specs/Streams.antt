@@ -1,4 +1,5 @@
--- A stream of shifts: once the fifth byte of a transfer has come, a shift of 03h, 02h or 84h moves the next column on, and changes nothing else but the cache.
+-- A stream of shifts: once the fifth byte of a transfer has come, a shift of 03h, 02h or 84h moves the next column on, and changes
+-- nothing else but the cache.
 use mathlib.Core.Bool.{Bool, true, false, _&&_, _||_}
 use mathlib.Core.List.{List}
 use mathlib.Core.Path.{_≡_}
@@ -65,7 +66,8 @@ Follows log at written out k = ShiftAt log (at + 2 * k) × (written + k < length
 abbrev pub noShift : State → Stream
 noShift s = record { state = s; count = 0 }
 
--- what a stream does from a state on: shifts, whatever else the machine holds; all that follow where the bus is in a stream, and none where it is not
+-- what a stream does from a state on: shifts, whatever else the machine holds; all that follow where the bus is in a stream, and none
+-- where it is not
 pub record Streamed (g : Geometry) (s : State) (log : List ℕ) (at written : ℕ) (cache out : List ℕ) (r : Stream) (cache₁ out₁ : List ℕ) : Type 0 where
   pub done : (m : Machine) → Shifted g log at written (onCache s cache m) out (r .count) (onCache (r .state) cache₁ m) out₁
   pub all : streams (s .bus) ≡ true → Follows log at written out (r .count) → ⊥

@@ -1,4 +1,5 @@
-// A stream of shifts: once the fifth byte of a transfer has come, only the next column moves on, and data is read or loaded. Document 01, "Instructions".
+// A stream of shifts: once the fifth byte of a transfer has come, only the next column moves on, and data is read or loaded. Document 01,
+// "Instructions".
 ghost use mathlib.Core.Bool.{true};
 ghost use mathlib.Core.Path.{_≡_};
 ghost use Prim.Native.Nat.{_/_, _≤_, min};
@@ -139,7 +140,8 @@ fn none(s: State) -> Stream
     Stream { state: s, count: 0 }
 }
 
-// The shifts from a place of the log on, their output from a place of the output on: all that follow one another where the bus is in a stream, and else none.
+// The shifts from a place of the log on, their output from a place of the output on: all that follow one another where the bus is in a
+// stream, and else none.
 pub fn shifts(
     g: Geometry,
     s: State,
