@@ -114,10 +114,11 @@ typedef struct sleet_judged {
 } sleet_judged;
 
 /*
- * Run a log as sleet_run does, and say whether it was orderly: each instruction other than Get Feature, Read ID and Reset had its first byte while the
- * array was idle, no reset and no power loss took effect while it was busy, it began at power-up or idle and ended idle. For an orderly log the end
- * is proved not to depend on how the work records fall among the others. Of a log that is refused it speaks of the records done, so look at answer.refusal
- * first; a state that is given back because its numbers stand for none is not orderly. It takes longer than sleet_run.
+ * Run a log as sleet_run does, and say whether it was orderly: each instruction other than Get Feature, Read ID and Reset had its first byte
+ * while the array was idle, no reset and no power loss took effect while it was busy, it began at power-up or idle and ended idle. The end of
+ * an orderly log is proved to be the one reached if every operation is done whole as it begins, so that two orderly logs with the same records
+ * but for their work have one end. Of a log that is refused it speaks of the records done, so look at answer.refusal first; a state that is
+ * given back because its numbers stand for none is not orderly. It takes longer than sleet_run.
  */
 sleet_judged sleet_judge(sleet_geometry part, sleet_state state, const uint8_t *log, size_t log_length, uint8_t *cells, size_t cells_length,
                          uint8_t *cache, size_t cache_length, uint8_t *counts, size_t counts_length, uint8_t *out, size_t out_length);

@@ -26,8 +26,9 @@ options of replay:
   --judge         print `orderly` or `not orderly` before the last line. A log
                   is orderly if while the array is busy no command is begun but
                   Get Feature, Read ID and Reset, no reset and no power loss
-                  takes effect, and if it ends with the array idle: its end then
-                  does not depend on when the array's work is done
+                  takes effect, and if it ends with the array idle: its end is
+                  then the one reached if each operation is done whole as it
+                  begins
 
 The replay begins at power-up. The last line printed is `end`, the number of
 refusal and the records done; `end 0 8` is a log of 8 records read to its end.
