@@ -11,22 +11,22 @@ use lib.ListN.{length, drop, getD, drop-of-length-le, List·getD-eq-default}
 use lib.Seq.{drop-cons}
 use borrow.Author.Tests.{eqb-true, ltb-true, ltb-false}
 use Rattle.part.proofs.Choice.{cond-keep}
-use Rattle.face.specs.Text.{upToNul, behind}
+use Rattle.face.specs.Text.{upToNul, behindNumber}
 
 module _ (l other : List ℕ) (n i : ℕ) (inside : Bool) where
   -- the number of a row is found
-  pub hit : i < length l → not inside && eqb n (getD l i 0) ≡ true → drop (i + 1) l ≡ behind inside n other (drop i l)
-  unfolding behind
+  pub hit : i < length l → not inside && eqb n (getD l i 0) ≡ true → drop (i + 1) l ≡ behindNumber inside n other (drop i l)
+  unfolding behindNumber
   hit h e = rw (drop-cons l i 0 h, e, add-one i)
 
   -- or passed over
-  pub missed : i < length l → not inside && eqb n (getD l i 0) ≡ false → behind (not (inside && eqb (getD l i 0) 0)) n other (drop (i + 1) l) ≡ behind inside n other (drop i l)
-  unfolding behind
+  pub missed : i < length l → not inside && eqb n (getD l i 0) ≡ false → behindNumber (not (inside && eqb (getD l i 0) 0)) n other (drop (i + 1) l) ≡ behindNumber inside n other (drop i l)
+  unfolding behindNumber
   missed h e = rw (drop-cons l i 0 h, e, add-one i)
 
   -- and behind the last row there is none
-  pub none-left : length l ≤ i → other ≡ behind inside n other (drop i l)
-  unfolding behind
+  pub none-left : length l ≤ i → other ≡ behindNumber inside n other (drop i l)
+  unfolding behindNumber
   none-left h = rw (drop-of-length-le l h)
 
 -- the words of a row are no longer than the row

@@ -9,7 +9,7 @@ use lib.ListN.{length}
 use borrow.Author.Tests.{ltb-true, not-true}
 use Rattle.part.proofs.Choice.{cond-no, cond-keep, cond-two, T-true, and-l, and-r}
 use Rattle.face.specs.Promises.{TextFits}
-use Rattle.face.specs.Text.{Meaning, meanings, unmeant, wordsAmong, bytes, textOf, upToNul, behind}
+use Rattle.face.specs.Text.{Meaning, meanings, unmeant, wordsAmong, bytes, textOf, upToNul, behindNumber}
 
 -- ---- what is asked of all words: no NUL among them, and room in 48 bytes
 
@@ -60,13 +60,13 @@ up-to [] rest t = refl
 up-to (b ∷ w) rest t = cond-no (eqb b 0) _ _ (not-zero b w t) ∙ ap (λ (bs : List ℕ). b ∷ bs) (up-to w rest (and-r (not (eqb b 0)) (plain w) t))
 
 -- and are passed over
-past : (w rest : List ℕ) (n : ℕ) (other : List ℕ) → T (plain w) → behind true n other (w ++ (0 ∷ rest)) ≡ behind false n other rest
-unfolding plain behind
+past : (w rest : List ℕ) (n : ℕ) (other : List ℕ) → T (plain w) → behindNumber true n other (w ++ (0 ∷ rest)) ≡ behindNumber false n other rest
+unfolding plain behindNumber
 past [] rest n other t = refl
 past (b ∷ w) rest n other t = rw (not-zero b w t) (past w rest n other (and-r (not (eqb b 0)) (plain w) t))
 
-found : (ms : List Meaning) (n : ℕ) (other : List ℕ) → T (every ms) → upToNul other ≡ bytes unmeant → upToNul (behind false n other (rowsOf ms)) ≡ bytes (wordsAmong ms n)
-unfolding every right behind rowsOf wordsAmong
+found : (ms : List Meaning) (n : ℕ) (other : List ℕ) → T (every ms) → upToNul other ≡ bytes unmeant → upToNul (behindNumber false n other (rowsOf ms)) ≡ bytes (wordsAmong ms n)
+unfolding every right behindNumber rowsOf wordsAmong
 found [] n other t h = h
 found (m ∷ ms) n other t h =
     let p : T (plain (bytes (m .words))) = and-l (plain (bytes (m .words))) (ltb (length (bytes (m .words))) 48) (and-l (right (m .words)) (every ms) t) in
@@ -75,6 +75,6 @@ found (m ∷ ms) n other t h =
     (λ e. ap upToNul (past (bytes (m .words)) (rowsOf ms) n other p) ∙ found ms n other (and-r (right (m .words)) (every ms) t) h)
 
 -- each number finds its words in the table
-pub said : (n : ℕ) → upToNul (behind true n table table) ≡ textOf n
+pub said : (n : ℕ) → upToNul (behindNumber true n table table) ≡ textOf n
 unfolding table bytes plain
 said n = ap upToNul (past (bytes unmeant) (rowsOf meanings) n table tt) ∙ found meanings n table all-right (up-to (bytes unmeant) (rowsOf meanings) tt)

@@ -79,6 +79,6 @@ upToNul [] = []
 upToNul (b ∷ bs) = if eqb b 0 then [] else b ∷ upToNul bs
 
 -- what stands behind the number of a row, or else `other`; the first byte is inside words, or else it is a number
-unfoldable pub behind : Bool → ℕ → List ℕ → List ℕ → List ℕ
-behind inside n other [] = other
-behind inside n other (b ∷ bs) = if not inside && eqb n b then bs else behind (not (inside && eqb b 0)) n other bs
+unfoldable pub behindNumber : Bool → ℕ → List ℕ → List ℕ → List ℕ
+behindNumber inside n other [] = other
+behindNumber inside n other (b ∷ bs) = if not inside && eqb n b then bs else behindNumber (not (inside && eqb b 0)) n other bs

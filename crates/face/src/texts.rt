@@ -4,7 +4,7 @@ ghost use mathlib.Core.Path.{_≡_};
 ghost use Prim.Native.Nat.{_≤_};
 ghost use lib.Dec.{eqb};
 ghost use lib.ListN.{length, drop, getD};
-ghost use Rattle.face.specs.Text.{textOf, upToNul, behind, faceLaid, textLaid};
+ghost use Rattle.face.specs.Text.{textOf, upToNul, behindNumber, faceLaid, textLaid};
 
 // Whether a byte of a table begins the row of a number.
 fn row_of(inside: bool, b: u8, n: u8) -> bool
@@ -22,7 +22,7 @@ fn within(inside: bool, b: u8) -> bool
 
 // Where the words of a number begin in a table.
 fn words_at(table: &[u8], n: u8) -> usize
-    ensures { λ r. ⌜ (r ≤ length (now (table .entry))) × (drop r (now (table .entry)) ≡ behind true n (now (table .entry)) (now (table .entry))) ⌝ }
+    ensures { λ r. ⌜ (r ≤ length (now (table .entry))) × (drop r (now (table .entry)) ≡ behindNumber true n (now (table .entry)) (now (table .entry))) ⌝ }
 {
     let mut inside = true;
     let mut i = 0;
@@ -75,7 +75,7 @@ fn lay(row: &[u8], out: &mut [u8]) -> usize
 
 // The words of a number in a table, laid.
 fn lay_words(table: &[u8], n: u8, out: &mut [u8]) -> usize
-    ensures { λ r. ⌜ faceLaid r (now (out .exit)) ≡ textLaid (upToNul (behind true n (now (table .entry)) (now (table .entry)))) (now (out .entry)) ⌝ }
+    ensures { λ r. ⌜ faceLaid r (now (out .exit)) ≡ textLaid (upToNul (behindNumber true n (now (table .entry)) (now (table .entry)))) (now (out .entry)) ⌝ }
 {
     let a = words_at(table, n);
     lay(&table[a..], out)

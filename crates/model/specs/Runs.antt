@@ -71,6 +71,7 @@ pub record End : Type 0 where
   pub counts : List ℕ
   pub out : List ℕ
 
+-- an answer, with what the lent memory then holds
 abbrev pub seen : Answer → List ℕ → List ℕ → List ℕ → List ℕ → End
 seen a cells cache counts out = record { answer = a; cells = cells; cache = cache; counts = counts; out = out }
 

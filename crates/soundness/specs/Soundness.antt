@@ -41,9 +41,11 @@ letIn t = is t 0x0F || is t 0x9F || is t 0xFF || is t noByte
 
 -- ---- the same as tests
 
+-- bits of a register outside its mask are 0
 abbrev pub within : ℕ → ℕ → Bool
 within mask v = eqb (bitAnd v mask) v
 
+-- bits 7 to 4 of C0h are as they may be
 abbrev pub highSound : ℕ → Bool
 highSound h = eqb h 0
 
@@ -55,6 +57,7 @@ registersSound g r = within (a0Mask g) (r .a0) && within b0Mask (r .b0) && withi
 abbrev pub transferSound : Transfer → Bool
 transferSound t = leb (t .count) 5 && leb (t .column .0) 4096
 
+-- for program and erase the row is in the array
 abbrev pub inArray : Geometry → Job → Bool
 inArray g (Read r) = true
 inArray g (Program r) = inside g r

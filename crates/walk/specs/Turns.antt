@@ -75,6 +75,7 @@ pub record Turned : Type 0 where
   pub machine : Machine
   pub out : List ℕ
 
+-- the three together
 abbrev pub turned : Went → Machine → List ℕ → Turned
 turned r m out = record { went = r; machine = m; out = out }
 

@@ -5,13 +5,13 @@ use Prim.Native.Nat.{_≤_, _-_}
 use native.Mathlib.Omega.{arith}
 use borrow.Author.Needs.{needs}
 use lib.ListN.{length, drop}
-use Rattle.face.specs.Text.{behind}
+use Rattle.face.specs.Text.{behindNumber}
 use Rattle.face.proofs.Scans.{hit, missed, none-left}
 use Rattle.face.proofs.texts.words_at.Statement.{statement}
 use Rattle.face.proofs.texts.words_at.Tie as tie
 
 abbrev Inv-loop : tie.InvT-loop
-Inv-loop table n inside₀ i₀ inside i = (i ≤ length table) × (behind inside n table (drop i table) ≡ behind true n table table)
+Inv-loop table n inside₀ i₀ inside i = (i ≤ length table) × (behindNumber inside n table (drop i table) ≡ behindNumber true n table table)
 
 abbrev μ-loop : tie.MeasureT-loop
 μ-loop table n inside₀ i₀ inside i = length table - i
