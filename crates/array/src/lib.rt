@@ -83,7 +83,7 @@ fn erase_units(block: &mut [u8], from: usize, to: usize)
 }
 
 // How many units an operation has.
-fn length_of(g: Geometry, job: Job) -> usize
+pub fn length_of(g: Geometry, job: Job) -> usize
     requires { ⌜ Sound g ⌝ }
     ensures { λ r. ⌜ r ≡ lengthOf g job ⌝ }
 {
@@ -146,7 +146,7 @@ pub fn advance(
     g: Geometry,
     job: Job,
     done: usize,
-    n: u16,
+    n: usize,
     cells: &mut [u8],
     cache: &mut [u8],
 ) -> Work
@@ -154,8 +154,8 @@ pub fn advance(
     ensures { λ r. ⌜ (r ≡ onward g job (done + n)) × (store (now (cells .exit)) (now (cache .exit)) ≡ many g job done n (store (now (cells .entry)) (now (cache .entry)))) ⌝ }
 {
     let length = length_of(g, job);
-    let to = done + part::wide_short(n);
-    if to < length {
+    if n < length - done {
+        let to = done + n;
         units(g, job, done, to, cells, cache);
         Work::Busy(job, to)
     } else {

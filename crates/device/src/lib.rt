@@ -269,7 +269,7 @@ impl State {
     }
 
     // Array work of n units.
-    pub fn work(self, g: Geometry, n: u16, cells: &mut [u8], cache: &mut [u8]) -> State
+    pub fn work(self, g: Geometry, n: usize, cells: &mut [u8], cache: &mut [u8]) -> State
         requires { ⌜ WorkReady g (self .work) (store (now cells) (now cache)) ⌝ }
         ensures { λ r. ⌜ ((m : Machine) → onStore r (now (cells .exit)) (now (cache .exit)) m ≡ units g n (onStore self (now (cells .entry)) (now (cache .entry)) m)) ⌝ }
     {

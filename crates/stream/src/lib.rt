@@ -51,7 +51,7 @@ fn most(bytes: usize, room: usize) -> usize
 }
 
 // The state with another next column.
-fn at_column(c: Column, s: State) -> State
+pub fn at_column(c: Column, s: State) -> State
     ensures { λ r. ⌜ r ≡ atColumn c s ⌝ }
 {
     let x = s.bus;

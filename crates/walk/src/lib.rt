@@ -114,7 +114,7 @@ pub fn turn(
             t
         }
         Record::Deselect => s.deselect(g, counts),
-        Record::Units(n) => s.work(g, n, cells, cache),
+        Record::Units(n) => s.work(g, part::wide_short(n), cells, cache),
         Record::Level(v) => s.level(pins_of(v)),
         Record::Power => s.power(g, cache),
     }

@@ -37,8 +37,11 @@ deselect-requires c κs = search needs
 enum-known-e-2 : tie.Need-enum-known-e-2
 enum-known-e-2 c = search needs
 
+wide-short-requires : tie.Need-wide-short-requires
+wide-short-requires c κs = search needs
+
 work-requires : tie.Need-work-requires
-work-requires c κs = work-ready (c .before .before .before .before .before .before .before .before .before .args .g) (c .before .before .before .before .before .before .before .before .before .pre .0) (machine (c .before .before .before .before .before .before .before .before .before .args .s) (now (c .before .before .before .before .before .before .before .before .before .args .cells)) (now (c .before .before .before .before .before .before .before .before .before .args .cache)) (now (c .before .before .before .before .before .before .before .before .before .args .counts))) (c .before .before .before .before .before .before .before .before .before .pre .1)
+work-requires c κs = work-ready (c .before .before .before .before .before .before .before .before .before .before .args .g) (c .before .before .before .before .before .before .before .before .before .before .pre .0) (machine (c .before .before .before .before .before .before .before .before .before .before .args .s) (now (c .before .before .before .before .before .before .before .before .before .before .args .cells)) (now (c .before .before .before .before .before .before .before .before .before .before .args .cache)) (now (c .before .before .before .before .before .before .before .before .before .before .args .counts))) (c .before .before .before .before .before .before .before .before .before .before .pre .1)
 
 enum-known-e-3 : tie.Need-enum-known-e-3
 enum-known-e-3 c = search needs
@@ -86,7 +89,7 @@ same-length-5 c = search needs
 
 returns-4 : tie.Need-returns-4
 unfolding step stepping
-returns-4 c = rw (c .before .before .before .before .before .before .before .before .e2 .given .1) (c .before .before .before .before .work .ensures (machine (c .before .before .before .before .before .before .before .before .before .before .before .before .before .before .args .s) (now (c .before .before .before .before .before .before .before .before .before .before .before .before .before .before .args .cells)) (now (c .before .before .before .before .before .before .before .before .before .before .before .before .before .before .args .cache)) (now (c .before .before .before .before .before .before .before .before .before .before .before .before .before .before .args .counts))), over-none (now (c .before .before .before .before .before .before .before .before .before .before .before .before .before .before .args .out)) (c .before .before .before .before .before .before .before .before .before .before .before .before .before .before .args .at))
+returns-4 c = rw (c .before .before .before .before .before .before .before .before .before .e2 .given .1, ← (c .before .before .before .before .before .before .before .wide-short .ensures)) (c .before .before .before .before .work .ensures (machine (c .before .before .before .before .before .before .before .before .before .before .before .before .before .before .before .args .s) (now (c .before .before .before .before .before .before .before .before .before .before .before .before .before .before .before .args .cells)) (now (c .before .before .before .before .before .before .before .before .before .before .before .before .before .before .before .args .cache)) (now (c .before .before .before .before .before .before .before .before .before .before .before .before .before .before .before .args .counts))), over-none (now (c .before .before .before .before .before .before .before .before .before .before .before .before .before .before .before .args .out)) (c .before .before .before .before .before .before .before .before .before .before .before .before .before .before .before .args .at))
 
 returns-5 : tie.Need-returns-5
 unfolding step
@@ -111,6 +114,7 @@ turn-spec =
     enum-told-2
     deselect-requires
     enum-known-e-2
+    wide-short-requires
     work-requires
     enum-known-e-3
     pins-of-requires
