@@ -18,7 +18,7 @@ use transfer::Bus;
 use transfer::Instruction;
 use transfer::Transfer;
 
-// The part.
+// The part. (In C its first field is `data`: a name that the proofs' language keeps for itself.)
 #[repr(C)]
 pub struct CGeometry {
     pub main: u32,
@@ -64,6 +64,13 @@ pub struct CAnswer {
 pub struct CJudged {
     pub answer: CAnswer,
     pub orderly: bool,
+}
+
+// The byte that the next shift will put out.
+#[repr(C)]
+pub struct CPeek {
+    pub refusal: u8,
+    pub byte: u8,
 }
 
 // A record of a log.

@@ -1,6 +1,6 @@
 -- Numbers that stand for no state: the stand-in is sound on no part, so that a run of it does nothing.
 use mathlib.Core.Bool.{Bool, true, false, cond, not}
-use mathlib.Core.List.{List}
+use mathlib.Core.List.{List, []}
 use mathlib.Core.Path.{_≡_, refl, sym, _∙_, ap}
 use Prim.Native.Nat.{ℕ, _*_}
 use lib.Dec.{eqb}
@@ -22,10 +22,13 @@ use Rattle.model.specs.Runs as model
 use Rattle.model.specs.Runs.{End, runOf, shown}
 use Rattle.refusals.specs.declared.Refusal.the-variants.{BadPart, BadCells, BadCache, BadCounts, BadState}
 use Rattle.model.proofs.Single.{run-refused}
+use Rattle.exchange.specs.Exchange.{unlogged}
+use Rattle.beside.specs.Beside.{workOf}
+use Rattle.beside.proofs.Works.{work-refused}
 use Rattle.whole.specs.Demand.{given}
 use Rattle.orderly.specs.Judge.{Judgement, judgementOf}
 use Rattle.sleetanvil.specs.Promises.{BadExactly}
-use Rattle.sleetanvil.specs.Runs.{CEnd, CJudgement, shownAs, ranTold, faceRan, judgedTold, judgedOf, orderlyOf}
+use Rattle.sleetanvil.specs.Runs.{CEnd, CJudgement, shownAs, ranTold, faceRan, unheard, faceUnlogged, workedTold, workedOf, judgedTold, judgedOf, orderlyOf}
 
 -- the checks, with the last one out
 stops-at : (g : Geometry) (cells cache counts : ℕ) →
@@ -62,6 +65,13 @@ pub not-run : (g : Geometry) (room : ℕ) (log cells cache counts out : List ℕ
 not-run g room log cells cache counts out =
     sym (run-refused g (stepping g) out (machine noState cells cache counts) room log (checkOf g noState (length cells) (length cache) (length counts)) refl (stops g (length cells) (length cache) (length counts)))
 
+-- nor does work
+not-worked : (g : Geometry) (n : ℕ) (cells cache counts : List ℕ) →
+    shown (workOf g (stepping g) n (machine noState cells cache counts)) []
+    ≡ model.seen (nothing (checkOf g noState (length cells) (length cache) (length counts)) noState) cells cache counts []
+not-worked g n cells cache counts =
+    sym (work-refused g n (machine noState cells cache counts) (checkOf g noState (length cells) (length cache) (length counts)) refl (stops g (length cells) (length cache) (length counts)))
+
 -- ---- what the model answers, put right, is what the numbers stand for
 
 -- the numbers that go back, beside the memory that a run left
@@ -82,6 +92,11 @@ module _ (g : CGeometry) (c : CState) (log cells cache counts out : List ℕ) wh
   judged-right (Good s) = refl
   judged-right Bad = ap (λ (e : CEnd). record { end = e; orderly = false }) (ran-right Bad)
 
+worked-right : (g : CGeometry) (c : CState) (n : ℕ) (cells cache counts : List ℕ) (x : Told) →
+    unheard (putRight x c (shown (workOf (partOf g) (stepping (partOf g)) n (machine (standIn x) cells cache counts)) [])) ≡ workedTold g c x n cells cache counts
+worked-right g c n cells cache counts (Good s) = refl
+worked-right g c n cells cache counts Bad = ap (λ (e : End). unheard (putRight Bad c e)) (not-worked (partOf g) n cells cache counts)
+
 -- so it is with a call's own part and state
 module _ (g : CGeometry) (c : CState) (log cells cache counts out : List ℕ) {x : Told} {p : Geometry} {s : State} (hx : x ≡ stateOf c) (hp : p ≡ partOf g) (hs : s ≡ standIn x) where
   pub as-ran : {e : End} → e ≡ shown (runOf p (stepping p) (length out) log (machine s cells cache counts)) out → putRight x c e ≡ faceRan g c log cells cache counts out
@@ -91,3 +106,13 @@ module _ (g : CGeometry) (c : CState) (log cells cache counts out : List ℕ) {x
   pub as-judged : {j : Judgement} → j ≡ judgementOf (given p s log cells cache counts out) → judgedRight x c j ≡ judgedOf g c log cells cache counts out
   unfolding judgedOf
   as-judged h = rw (h, hs, hp, hx) (judged-right g c log cells cache counts out (stateOf c))
+
+  -- with no log in between
+  pub as-exchanged : {e : End} → e ≡ unlogged (shown (runOf p (stepping p) (length out) log (machine s cells cache counts)) out) → putRight x c e ≡ faceUnlogged (faceRan g c log cells cache counts out)
+  as-exchanged h = ap (putRight x c) h ∙ ap faceUnlogged (as-ran {e = shown (runOf p (stepping p) (length out) log (machine s cells cache counts)) out} refl)
+
+-- and with work
+pub as-worked : (g : CGeometry) (c : CState) (n : ℕ) (cells cache counts : List ℕ) {x : Told} {p : Geometry} {s : State} → x ≡ stateOf c → p ≡ partOf g → s ≡ standIn x
+    → {e : End} → e ≡ shown (workOf p (stepping p) n (machine s cells cache counts)) [] → unheard (putRight x c e) ≡ workedOf g c n cells cache counts
+unfolding workedOf
+as-worked g c n cells cache counts hx hp hs h = rw (h, hs, hp, hx) (worked-right g c n cells cache counts (stateOf c))

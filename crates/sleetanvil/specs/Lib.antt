@@ -1,2 +1,3 @@
 pub mod Runs
+pub mod Beside
 pub mod Promises

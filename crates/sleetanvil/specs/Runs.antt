@@ -1,9 +1,11 @@
--- A run, one event, and a run judged, with the part and the state in plain numbers.
+-- A run, one event, bytes exchanged, work, and a run judged, with the part and the state in plain numbers.
 use mathlib.Core.Bool.{Bool, false}
 use mathlib.Core.List.{List, []}
 use Prim.Native.Nat.{ℕ}
 use lib.ListN.{length}
 use Rattle.part.specs.declared.Geometry.{Geometry}
+use Rattle.buslog.specs.Log.{written}
+use Rattle.buslog.specs.declared.Record.{Record}
 use Rattle.device.specs.Machine.{machine}
 use Rattle.device.specs.Work.{stepping}
 use Rattle.face.specs.Face.{partOf, stateOf, faceOf, noState}
@@ -16,6 +18,7 @@ use Rattle.face.specs.declared.Told.the-variants.{Good, Bad}
 use Rattle.refusals.specs.Refusals.{numberOf, checkOf}
 use Rattle.model.specs.Runs.{End, runOf, shown}
 use Rattle.walk.specs.declared.Answer.{Answer}
+use Rattle.beside.specs.Beside.{workOf}
 use Rattle.whole.specs.Demand.{given}
 use Rattle.orderly.specs.Judge.{Judgement, judgementOf}
 
@@ -85,6 +88,35 @@ unheard e = quiet (e .answer) (e .cells) (e .cache) (e .counts)
 -- a run of the log with no output lent
 abbrev pub quietOf : CGeometry → CState → List ℕ → List ℕ → List ℕ → List ℕ → CQuiet
 quietOf g c log cells cache counts = unheard (faceRan g c log cells cache counts [])
+
+-- ---- bytes exchanged, with no log in between
+
+-- what a run leaves, where no log was lent: none of its bytes was used
+abbrev pub faceUnlogged : CEnd → CEnd
+faceUnlogged e =
+    faceSeen
+    (record { state = e .answer .state; records = e .answer .records; used = 0; written = e .answer .written; refusal = e .answer .refusal })
+    (e .cells)
+    (e .cache)
+    (e .counts)
+    (e .out)
+
+-- the run of the records
+abbrev pub exchangedOf : CGeometry → CState → List Record → List ℕ → List ℕ → List ℕ → List ℕ → CEnd
+exchangedOf g c es cells cache counts out = faceUnlogged (faceRan g c (written es) cells cache counts out)
+
+-- ---- work of any number of units
+
+-- a state works; where there is none, nothing is done
+abbrev pub workedTold : CGeometry → CState → Told → ℕ → List ℕ → List ℕ → List ℕ → CQuiet
+workedTold g c (Good s) n cells cache counts =
+    let e = shown (workOf (partOf g) (stepping (partOf g)) n (machine s cells cache counts)) [] in
+    unheard (shownAs (faceOf (e .answer .state)) e)
+workedTold g c Bad n cells cache counts = quiet (faceNothing (checkBad (partOf g) (length cells) (length cache) (length counts)) c) cells cache counts
+
+-- from the part and the state that the numbers stand for
+unfoldable pub workedOf : CGeometry → CState → ℕ → List ℕ → List ℕ → List ℕ → CQuiet
+workedOf g c n cells cache counts = workedTold g c (stateOf c) n cells cache counts
 
 -- ---- a run judged
 
