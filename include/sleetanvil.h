@@ -2,13 +2,16 @@
  * Sleetanvil: a proved model of a serial NAND flash (FM25S005BI3 and a small bench part).
  *
  * Who owns what. Every buffer is the caller's and is only lent for the length of a call; the library keeps nothing between calls, allocates
- * nothing and has no state of its own. Structs go in and come back by value. A buffer is a pointer and the number of its bytes; buffers of one
- * call may not overlap, and a pointer may not be null, even where the length is 0. Nothing else is asked of a caller: each function answers for every content of
- * its arguments, and bad input is refused by number.
+ * nothing and has no state of its own. Structs go in and come back by value. A buffer is a pointer and the number of its bytes; buffers of
+ * one call may not overlap, and a pointer may not be null, even where the length is 0. Nothing else is asked of a caller: each function
+ * answers for every content of its arguments, and bad input is refused by number.
  *
  * The device state comes back whole from each call and is handed in again with the next. Cells, cache register and page counts are the
- * device's memory: lend the same ones again with the state. For a geometry of D data bytes and S spare bytes a page (P = D + S), K pages a block
- * and N blocks, their lengths are P*K*N, P and K*N (`sleet_cells_length`, `sleet_cache_length`, `sleet_counts_length`).
+ * device's memory: lend the same ones again with the state. For a geometry of D data bytes and S spare bytes per page (P = D + S), K pages
+ * per block and N blocks, their lengths are P*K*N, P and K*N (`sleet_cells_length`, `sleet_cache_length`, `sleet_counts_length`).
+ *
+ * A simulator that has whole transfers calls `sleet_transfer`; one that has bytes calls the events; one that has a log calls `sleet_run`.
+ * `sleetanvil_device.h` bundles part, state and memory into a handle for C, and `sleetanvil.hpp` into a class for C++.
  */
 #ifndef SLEETANVIL_H
 #define SLEETANVIL_H
@@ -20,6 +23,13 @@
 #ifdef __cplusplus
 extern "C" {
 #endif
+
+/* ---- version ---- */
+
+#define SLEET_VERSION 2 /* of this header; it rises with every change of a struct or of a function's arguments */
+
+/* The version of the header that the library was made with: where it is not SLEET_VERSION, header and library do not go together. */
+uint32_t sleet_version(void);
 
 /* ---- numbers of refusal ---- */
 
@@ -36,13 +46,60 @@ enum {
     SLEET_NO_ROOM = 9     /* a shift and no output room left, or too little room for a record; stopped before it */
 };
 
+/* ---- names of the device ---- */
+
+/* Instruction codes, the first byte of a transfer. */
+enum {
+    SLEET_CODE_WRITE_ENABLE = 0x06,
+    SLEET_CODE_WRITE_DISABLE = 0x04,
+    SLEET_CODE_GET_FEATURE = 0x0F,
+    SLEET_CODE_SET_FEATURE = 0x1F,
+    SLEET_CODE_READ_ID = 0x9F,
+    SLEET_CODE_PAGE_READ = 0x13,
+    SLEET_CODE_READ_CACHE = 0x03, /* 0Bh does the same */
+    SLEET_CODE_READ_CACHE_FAST = 0x0B,
+    SLEET_CODE_LOAD = 0x02,
+    SLEET_CODE_LOAD_RANDOM = 0x84,
+    SLEET_CODE_EXECUTE = 0x10,
+    SLEET_CODE_BLOCK_ERASE = 0xD8,
+    SLEET_CODE_RESET = 0xFF
+};
+
+/* Addresses of the registers, for Get and Set Feature: protection, feature, status, drive strength. */
+enum { SLEET_A0 = 0xA0, SLEET_B0 = 0xB0, SLEET_C0 = 0xC0, SLEET_D0 = 0xD0 };
+
+/* Bits of the registers. */
+enum {
+    SLEET_A0_BRWD = 0x80,   /* with WP# low, A0h cannot be written */
+    SLEET_A0_BP = 0x38,     /* the BP number: how many blocks are protected */
+    SLEET_A0_INV = 0x04,    /* the lowest blocks, not the highest */
+    SLEET_B0_ECC_E = 0x10,  /* only stored */
+    SLEET_B0_QE = 0x01,     /* only stored */
+    SLEET_C0_OIP = 0x01,    /* an operation is in progress */
+    SLEET_C0_WEL = 0x02,    /* writing is enabled */
+    SLEET_C0_E_FAIL = 0x04, /* the last erase request failed */
+    SLEET_C0_P_FAIL = 0x08, /* the last program request failed */
+    SLEET_C0_ECCS = 0x70,   /* 0 for now */
+    SLEET_D0_DRIVE = 0x60   /* the drive strength; only stored */
+};
+
+/* Kinds of the records of a log. */
+enum {
+    SLEET_KIND_SELECT = 1,   /* chip select falls */
+    SLEET_KIND_SHIFT = 2,    /* one byte in on DI, one out on DO; the body is the byte in */
+    SLEET_KIND_DESELECT = 3, /* chip select rises */
+    SLEET_KIND_WORK = 4,     /* array work; the body is its units, low byte first */
+    SLEET_KIND_LEVEL = 5,    /* WP# at a level; the body is 0 or 1 */
+    SLEET_KIND_POWER = 6     /* power lost and back */
+};
+
 /* ---- the part ---- */
 
-/* Sound: main at least 1, main + spare at most 4096, pages from 1 to 256, blocks at least 1, pages * blocks at most 65536. */
+/* Sound: data at least 1, data + spare at most 4096, pages from 1 to 256, blocks at least 1, pages * blocks at most 65536. */
 typedef struct sleet_geometry {
-    uint32_t main;   /* D, data bytes a page */
-    uint32_t spare;  /* S, spare bytes a page */
-    uint32_t pages;  /* K, pages a block */
+    uint32_t data;   /* D, data bytes per page */
+    uint32_t spare;  /* S, spare bytes per page */
+    uint32_t pages;  /* K, pages per block */
     uint32_t blocks; /* N, blocks */
     uint8_t id0;     /* the two identity bytes */
     uint8_t id1;
@@ -60,6 +117,13 @@ size_t sleet_cells_length(sleet_geometry part);
 size_t sleet_cache_length(sleet_geometry part);
 size_t sleet_counts_length(sleet_geometry part);
 
+/*
+ * The memory of a device that was never used: cells and cache register FFh, page counts 0. Refused with 1 to 4 as a run would be, and then
+ * not a byte is changed; where it gives 0, a run from sleet_power_up() on this memory is not refused with 1 to 5.
+ */
+uint8_t sleet_blank(sleet_geometry part, uint8_t *cells, size_t cells_length, uint8_t *cache, size_t cache_length, uint8_t *counts,
+                    size_t counts_length);
+
 /* ---- the device state ---- */
 
 enum { SLEET_IGNORED = 0x100 }; /* `instruction` where there is none to carry out */
@@ -67,8 +131,8 @@ enum { SLEET_IGNORED = 0x100 }; /* `instruction` where there is none to carry ou
 enum { SLEET_IDLE = 0, SLEET_READ = 1, SLEET_PROGRAM = 2, SLEET_ERASE = 3 }; /* `job` */
 
 /*
- * Not sound, and refused with 5, beside what document 01 lists: `wp` or `selected` above 1, an instruction that is neither SLEET_IGNORED nor one of
- * the twelve codes named below, a `job` above 3, and SLEET_IDLE with a row or units. Such a state is given back as it came.
+ * Not sound, and refused with 5, beside what document 01 lists: `wp` or `selected` above 1, an instruction that is neither SLEET_IGNORED
+ * nor one of the twelve codes named below, a `job` above 3, and SLEET_IDLE with a row or units. Such a state is given back as it came.
  */
 typedef struct sleet_state {
     uint8_t a0;           /* register A0h: protection */
@@ -94,34 +158,55 @@ sleet_state sleet_power_up(void);
 /* Whether a state is sound on a part. On a part that is not sound it is judged by the part's numbers as they are. */
 bool sleet_state_sound(sleet_geometry part, sleet_state state);
 
-/* ---- a log run ---- */
+/*
+ * How many units a job has on a part: P for SLEET_READ and SLEET_PROGRAM, K*P for SLEET_ERASE; 0 for any other job and for a part that is
+ * not sound.
+ */
+size_t sleet_operation_length(sleet_geometry part, uint8_t job);
+
+/*
+ * How many units of array work the operation in progress has left. On a sound part and state it is 0 exactly while the array is idle (OIP
+ * 0), and work of n units takes n away, down to 0. It is 0 too for a part or a state that is not sound.
+ */
+size_t sleet_units_left(sleet_geometry part, sleet_state state);
+
+typedef struct sleet_peeked {
+    uint8_t refusal; /* 0; or 1, 3 or 5, checked in this order: part, cache register, state */
+    uint8_t byte;    /* the byte; FFh where it is refused */
+} sleet_peeked;
+
+/* The byte that the next shift will put on DO: it does not depend on the byte shifted in. Nothing is changed. */
+sleet_peeked sleet_peek(sleet_geometry part, sleet_state state, const uint8_t *cache, size_t cache_length);
+
+/* ---- what every call on the bus answers ---- */
 
 typedef struct sleet_answer {
     sleet_state state; /* the state after the records done */
     size_t records;    /* records done */
     size_t used;       /* log bytes used: those of the records done */
-    size_t written;    /* output bytes written: one a shift */
+    size_t written;    /* output bytes written: one per shift */
     uint8_t refusal;   /* 0 to 9 */
 } sleet_answer;
 
-/* Run a log. After a refusal of 1 to 5 nothing has been touched; after 6 to 9 the earlier records stand and output past `written` is unchanged. */
-sleet_answer sleet_run(sleet_geometry part, sleet_state state, const uint8_t *log, size_t log_length, uint8_t *cells, size_t cells_length,
-                       uint8_t *cache, size_t cache_length, uint8_t *counts, size_t counts_length, uint8_t *out, size_t out_length);
-
-typedef struct sleet_judged {
-    sleet_answer answer; /* as sleet_run answers */
-    bool orderly;        /* the log began at power-up or idle, each of its records was orderly, and it ended idle */
-} sleet_judged;
+/* ---- a transfer in one call ---- */
 
 /*
- * Run a log as sleet_run does, and say whether it was orderly: each instruction other than Get Feature, Read ID and Reset had its first byte
- * while the array was idle, no reset and no power loss took effect while it was busy, it began at power-up or idle and ended idle. The end of
- * an orderly log is proved to be the one reached if every operation is done whole as it begins, so that two orderly logs with the same records
- * but for their work have one end. Of a log that is refused it speaks of the records done, so look at answer.refusal first; a state that is
- * given back because its numbers stand for none is not orderly. It takes longer than sleet_run.
+ * A whole transfer: chip select falls, `length` bytes of `di` go in and as many come out to `out`, chip select rises. It is the run of
+ * those records, `length` + 2 of them, and refused as that run is; no log is lent, so that `used` is 0. Where out_length is less than
+ * `length` it is SLEET_NO_ROOM: out_length bytes were shifted and written, and the chip is left selected; sleet_shifts with the bytes that
+ * are left and a sleet_deselect complete it.
+ *
+ * On a chip that is selected already the fall of chip select changes nothing: the bytes then continue the old transfer.
  */
-sleet_judged sleet_judge(sleet_geometry part, sleet_state state, const uint8_t *log, size_t log_length, uint8_t *cells, size_t cells_length,
-                         uint8_t *cache, size_t cache_length, uint8_t *counts, size_t counts_length, uint8_t *out, size_t out_length);
+sleet_answer sleet_transfer(sleet_geometry part, sleet_state state, const uint8_t *di, size_t length, uint8_t *cells, size_t cells_length,
+                            uint8_t *cache, size_t cache_length, uint8_t *counts, size_t counts_length, uint8_t *out, size_t out_length);
+
+/*
+ * A piece of a transfer: the bytes alone, with chip select as it is. It is the run of `length` shifts, and refused as that run is. While
+ * chip select is high, shifts do nothing and answer FFh.
+ */
+sleet_answer sleet_shifts(sleet_geometry part, sleet_state state, const uint8_t *di, size_t length, uint8_t *cells, size_t cells_length,
+                          uint8_t *cache, size_t cache_length, uint8_t *counts, size_t counts_length, uint8_t *out, size_t out_length);
 
 /* ---- one event at a time, through the same checks; each is a run of that record's bytes ---- */
 
@@ -132,10 +217,13 @@ sleet_answer sleet_select(sleet_geometry part, sleet_state state, uint8_t *cells
 sleet_answer sleet_shift(sleet_geometry part, sleet_state state, uint8_t byte, uint8_t *cells, size_t cells_length, uint8_t *cache,
                          size_t cache_length, uint8_t *counts, size_t counts_length, uint8_t *out, size_t out_length);
 /* Chip select rises. */
-sleet_answer sleet_deselect(sleet_geometry part, sleet_state state, uint8_t *cells, size_t cells_length, uint8_t *cache, size_t cache_length,
-                            uint8_t *counts, size_t counts_length);
-/* Array work of some units. */
-sleet_answer sleet_work(sleet_geometry part, sleet_state state, uint16_t units, uint8_t *cells, size_t cells_length, uint8_t *cache,
+sleet_answer sleet_deselect(sleet_geometry part, sleet_state state, uint8_t *cells, size_t cells_length, uint8_t *cache,
+                            size_t cache_length, uint8_t *counts, size_t counts_length);
+/*
+ * Array work. Up to 65,535 units it is a run of that work record. For any number it ends as a run of work records does whose units add up
+ * to it, however they are cut; the answer counts one record, and its three bytes.
+ */
+sleet_answer sleet_work(sleet_geometry part, sleet_state state, uint64_t units, uint8_t *cells, size_t cells_length, uint8_t *cache,
                         size_t cache_length, uint8_t *counts, size_t counts_length);
 /* WP# at a level, 0 low or 1 high; refused with 8 above 1. */
 sleet_answer sleet_level(sleet_geometry part, sleet_state state, uint8_t level, uint8_t *cells, size_t cells_length, uint8_t *cache,
@@ -144,11 +232,35 @@ sleet_answer sleet_level(sleet_geometry part, sleet_state state, uint8_t level, 
 sleet_answer sleet_power(sleet_geometry part, sleet_state state, uint8_t *cells, size_t cells_length, uint8_t *cache, size_t cache_length,
                          uint8_t *counts, size_t counts_length);
 
+/* ---- a log run ---- */
+
+/*
+ * Run a log. After a refusal of 1 to 5 nothing has been touched; after 6 to 9 the earlier records stand and output past `written` is
+ * unchanged.
+ */
+sleet_answer sleet_run(sleet_geometry part, sleet_state state, const uint8_t *log, size_t log_length, uint8_t *cells, size_t cells_length,
+                       uint8_t *cache, size_t cache_length, uint8_t *counts, size_t counts_length, uint8_t *out, size_t out_length);
+
+typedef struct sleet_judged {
+    sleet_answer answer; /* as sleet_run answers */
+    bool orderly;        /* the log began at power-up or idle, each of its records was orderly, and it ended idle */
+} sleet_judged;
+
+/*
+ * Run a log as sleet_run does, and say whether it was orderly: each instruction other than Get Feature, Read ID and Reset had its first
+ * byte while the array was idle, no reset and no power loss took effect while it was busy, it began at power-up or idle and ended idle. The
+ * end of an orderly log is proved to be the one reached if every operation is done whole as it begins, so that two orderly logs with the
+ * same records but for their work have one end. Of a log that is refused it speaks of the records done, so look at answer.refusal first; a
+ * state that is given back because its numbers stand for none is not orderly. It takes longer than sleet_run.
+ */
+sleet_judged sleet_judge(sleet_geometry part, sleet_state state, const uint8_t *log, size_t log_length, uint8_t *cells, size_t cells_length,
+                         uint8_t *cache, size_t cache_length, uint8_t *counts, size_t counts_length, uint8_t *out, size_t out_length);
+
 /* ---- records of a log ---- */
 
-/* `kind` 1 select, 2 shift, 3 deselect, 4 work, 5 WP# level, 6 power. What a kind has no use for is 0 where it is read and not looked at where it is written. */
+/* What a kind has no use for is 0 where it is read and not looked at where it is written. */
 typedef struct sleet_record {
-    uint8_t kind;
+    uint8_t kind;   /* SLEET_KIND_SELECT to SLEET_KIND_POWER */
     uint8_t byte;   /* the byte shifted in, or the level */
     uint16_t units; /* the units of work */
 } sleet_record;
@@ -163,8 +275,8 @@ typedef struct sleet_found {
 sleet_found sleet_next(const uint8_t *log, size_t log_length, size_t place);
 
 typedef struct sleet_wrote {
-    uint8_t refusal; /* 0; or, the first that holds: 6 for a kind not in the table, 8 for a level above 1, 9 for too little room (none past the
-                        end), and then nothing is written */
+    uint8_t refusal; /* 0; or, the first that holds: 6 for a kind not in the table, 8 for a level above 1, 9 for too little room (none past
+                        the end), and then nothing is written */
     size_t place;    /* the place after the record; the place given where it is refused */
 } sleet_wrote;
 
@@ -176,10 +288,10 @@ sleet_wrote sleet_write(sleet_record record, uint8_t *log, size_t log_length, si
 enum { SLEET_TEXT = 48 }; /* room for every text and its NUL */
 
 /*
- * What a number of refusal means, in a few English words, with a NUL behind them. The length without the NUL is returned; where the text and its NUL do
- * not fit, 0 is returned and nothing is written. A number above 9 has the text "no such refusal".
+ * What a number of refusal means, in a few English words, with a NUL behind them. The length without the NUL is returned; where the text
+ * and its NUL do not fit, 0 is returned and nothing is written. A number above 9 has the text "no such refusal".
  */
-size_t sleet_text(uint8_t refusal, uint8_t *out, size_t out_length);
+size_t sleet_text(uint8_t refusal, char *out, size_t out_length);
 
 #ifdef __cplusplus
 }
