@@ -6,7 +6,7 @@ use crate::{paper, Answer, Geometry, Refusal, State};
 impl From<Geometry> for paper::Part {
     fn from(geometry: Geometry) -> Self {
         paper::Part {
-            data: geometry.main,
+            data: geometry.data,
             spare: geometry.spare,
             pages: geometry.pages,
             blocks: geometry.blocks,
@@ -18,7 +18,7 @@ impl From<Geometry> for paper::Part {
 impl From<paper::Part> for Geometry {
     fn from(part: paper::Part) -> Self {
         Geometry {
-            main: part.data,
+            data: part.data,
             spare: part.spare,
             pages: part.pages,
             blocks: part.blocks,

@@ -1,7 +1,7 @@
 //! A device that owns its state and memory.
 
 use crate::lent::{self, Answer, Memory};
-use crate::{Geometry, Refusal, State};
+use crate::{ffi, Geometry, Refusal, State};
 
 /// A serial NAND flash with cells, cache register, page counts and state of its own.
 ///
@@ -35,6 +35,10 @@ impl Device {
     }
 
     /// A device in any state. What is not sound is refused, with the numbers 1 to 5.
+    ///
+    /// # Panics
+    ///
+    /// Where the archive that was linked is of another version than this package.
     pub fn from_parts(
         geometry: Geometry,
         state: State,
@@ -49,6 +53,11 @@ impl Device {
             cache,
             counts,
         };
+        assert_eq!(
+            ffi::version(),
+            ffi::VERSION,
+            "the archive is of another version than this package: make it again"
+        );
         device.run(&[], &mut []).result()?;
         Ok(device)
     }
@@ -88,7 +97,7 @@ impl Device {
         (self.cells, self.counts)
     }
 
-    /// Run a log. The output takes one byte a shift.
+    /// Run a log. The output takes one byte per shift.
     pub fn run(&mut self, log: &[u8], out: &mut [u8]) -> Answer {
         self.call(|geometry, state, memory| lent::run(geometry, state, log, memory, out))
     }
@@ -105,11 +114,13 @@ impl Device {
     }
 
     /// Chip select falls.
+    #[inline]
     pub fn select(&mut self) {
         self.event(lent::select);
     }
 
     /// One byte in on DI; the byte out on DO.
+    #[inline]
     pub fn shift(&mut self, byte: u8) -> u8 {
         let mut out = [0xFF];
         self.event(|geometry, state, memory| lent::shift(geometry, state, byte, memory, &mut out));
@@ -117,20 +128,53 @@ impl Device {
     }
 
     /// Chip select rises.
+    #[inline]
     pub fn deselect(&mut self) {
         self.event(lent::deselect);
     }
 
     /// A whole transfer: select, the bytes, deselect. Gives the bytes on DO.
+    ///
+    /// On a chip that is selected already the bytes continue the old transfer.
     pub fn transfer(&mut self, bytes: &[u8]) -> Vec<u8> {
-        self.select();
-        let out = bytes.iter().map(|&byte| self.shift(byte)).collect();
-        self.deselect();
+        let mut out = vec![0xFF; bytes.len()];
+        self.exchange(bytes, &mut out);
         out
     }
 
-    /// Array work of some units.
-    pub fn work(&mut self, units: u16) {
+    /// The same with the bytes on DO put where the caller wants them.
+    ///
+    /// # Panics
+    ///
+    /// Where `out` has less room than there are `bytes`; nothing is done then.
+    #[inline]
+    pub fn exchange(&mut self, bytes: &[u8], out: &mut [u8]) {
+        assert!(bytes.len() <= out.len(), "room for a byte out for each in");
+        self.event(|geometry, state, memory| lent::transfer(geometry, state, bytes, memory, out));
+    }
+
+    /// A piece of a transfer: the bytes alone, with chip select as it is. Gives the bytes on DO.
+    pub fn shifts(&mut self, bytes: &[u8]) -> Vec<u8> {
+        let mut out = vec![0xFF; bytes.len()];
+        let to = &mut out;
+        self.event(|geometry, state, memory| lent::shifts(geometry, state, bytes, memory, to));
+        out
+    }
+
+    /// The byte that the next shift will put on DO, whatever is shifted in.
+    pub fn peek(&self) -> u8 {
+        lent::peek(&self.geometry, self.state, &self.cache)
+            .expect("a sound device is never refused")
+    }
+
+    /// How many units the operation in progress has left; 0 exactly while the array is idle.
+    pub fn units_left(&self) -> usize {
+        self.state.units_left(&self.geometry)
+    }
+
+    /// Array work of any number of units.
+    #[inline]
+    pub fn work(&mut self, units: u64) {
         self.event(|geometry, state, memory| lent::work(geometry, state, units, memory));
     }
 
@@ -145,11 +189,13 @@ impl Device {
     }
 
     /// An event that a sound device always takes.
+    #[inline]
     fn event(&mut self, event: impl FnOnce(&Geometry, State, &mut Memory<'_>) -> Answer) {
         let refusal = self.call(event).refusal;
         assert_eq!(refusal, None, "an event of a sound device is never refused");
     }
 
+    #[inline]
     fn call(&mut self, call: impl FnOnce(&Geometry, State, &mut Memory<'_>) -> Answer) -> Answer {
         let mut memory = Memory {
             cells: &mut self.cells,

@@ -35,6 +35,16 @@ pub struct RawJudged {
     pub orderly: bool,
 }
 
+/// `sleet_peeked`.
+#[repr(C)]
+#[derive(Clone, Copy, Debug, PartialEq, Eq)]
+pub struct RawPeeked {
+    /// 0, 1, 3 or 5.
+    pub refusal: u8,
+    /// The byte; FFh where it is refused.
+    pub byte: u8,
+}
+
 /// `sleet_record`.
 #[repr(C)]
 #[derive(Clone, Copy, Debug, PartialEq, Eq)]
@@ -69,12 +79,16 @@ pub struct RawWrote {
     pub place: usize,
 }
 
+/// `SLEET_VERSION`: that of the header which this file was written for.
+pub const VERSION: u32 = 2;
+
 /// `SLEET_TEXT`: room for every text and its NUL.
 pub const TEXT: usize = 48;
 
 const _: () = {
     assert!(size_of::<Geometry>() == 20 && align_of::<Geometry>() == 4);
     assert!(size_of::<RawRecord>() == 4 && align_of::<RawRecord>() == 2);
+    assert!(size_of::<RawPeeked>() == 2 && align_of::<RawPeeked>() == 1);
 };
 
 #[cfg(target_pointer_width = "64")]
@@ -87,6 +101,7 @@ const _: () = {
 };
 
 extern "C" {
+    fn sleet_version() -> u32;
     fn sleet_fm25s005bi3() -> Geometry;
     fn sleet_bench() -> Geometry;
     fn sleet_geometry_sound(part: Geometry) -> bool;
@@ -95,6 +110,51 @@ extern "C" {
     fn sleet_counts_length(part: Geometry) -> usize;
     fn sleet_power_up() -> State;
     fn sleet_state_sound(part: Geometry, state: State) -> bool;
+    fn sleet_blank(
+        part: Geometry,
+        cells: *mut u8,
+        cells_length: usize,
+        cache: *mut u8,
+        cache_length: usize,
+        counts: *mut u8,
+        counts_length: usize,
+    ) -> u8;
+    fn sleet_operation_length(part: Geometry, job: u8) -> usize;
+    fn sleet_units_left(part: Geometry, state: State) -> usize;
+    fn sleet_peek(
+        part: Geometry,
+        state: State,
+        cache: *const u8,
+        cache_length: usize,
+    ) -> RawPeeked;
+    fn sleet_transfer(
+        part: Geometry,
+        state: State,
+        di: *const u8,
+        length: usize,
+        cells: *mut u8,
+        cells_length: usize,
+        cache: *mut u8,
+        cache_length: usize,
+        counts: *mut u8,
+        counts_length: usize,
+        out: *mut u8,
+        out_length: usize,
+    ) -> RawAnswer;
+    fn sleet_shifts(
+        part: Geometry,
+        state: State,
+        di: *const u8,
+        length: usize,
+        cells: *mut u8,
+        cells_length: usize,
+        cache: *mut u8,
+        cache_length: usize,
+        counts: *mut u8,
+        counts_length: usize,
+        out: *mut u8,
+        out_length: usize,
+    ) -> RawAnswer;
     fn sleet_run(
         part: Geometry,
         state: State,
@@ -159,7 +219,7 @@ extern "C" {
     fn sleet_work(
         part: Geometry,
         state: State,
-        units: u16,
+        units: u64,
         cells: *mut u8,
         cells_length: usize,
         cache: *mut u8,
@@ -191,6 +251,12 @@ extern "C" {
     fn sleet_next(log: *const u8, log_length: usize, place: usize) -> RawFound;
     fn sleet_write(record: RawRecord, log: *mut u8, log_length: usize, place: usize) -> RawWrote;
     fn sleet_text(refusal: u8, out: *mut u8, out_length: usize) -> usize;
+}
+
+/// `sleet_version`.
+pub fn version() -> u32 {
+    // SAFETY: takes nothing, gives a number.
+    unsafe { sleet_version() }
 }
 
 /// `sleet_fm25s005bi3`.
@@ -241,14 +307,56 @@ pub fn state_sound(part: Geometry, state: State) -> bool {
     unsafe { sleet_state_sound(part, state) }
 }
 
-/// A safe function for a call on a log.
-macro_rules! on_log {
+/// `sleet_operation_length`.
+pub fn operation_length(part: Geometry, job: u8) -> usize {
+    // SAFETY: answers for every content of its arguments.
+    unsafe { sleet_operation_length(part, job) }
+}
+
+/// `sleet_units_left`.
+#[inline]
+pub fn units_left(part: Geometry, state: State) -> usize {
+    // SAFETY: answers for every content of its arguments.
+    unsafe { sleet_units_left(part, state) }
+}
+
+/// `sleet_peek`.
+#[inline]
+pub fn peek(part: Geometry, state: State, cache: &[u8]) -> RawPeeked {
+    // SAFETY: the pointer comes with the length of its slice.
+    unsafe { sleet_peek(part, state, cache.as_ptr(), cache.len()) }
+}
+
+/// `sleet_blank`.
+pub fn blank(part: Geometry, memory: &mut Memory<'_>) -> u8 {
+    let Memory {
+        cells,
+        cache,
+        counts,
+    } = memory;
+    // SAFETY: each pointer comes with the length of its own slice, and the slices do not overlap.
+    unsafe {
+        sleet_blank(
+            part,
+            cells.as_mut_ptr(),
+            cells.len(),
+            cache.as_mut_ptr(),
+            cache.len(),
+            counts.as_mut_ptr(),
+            counts.len(),
+        )
+    }
+}
+
+/// A safe function for a call on bytes: a log, or those of a transfer.
+macro_rules! on_bytes {
     ($name:ident, $call:ident, $answer:ty) => {
         #[doc = concat!("`", stringify!($call), "`.")]
+        #[inline]
         pub fn $name(
             part: Geometry,
             state: State,
-            log: &[u8],
+            bytes: &[u8],
             memory: &mut Memory<'_>,
             out: &mut [u8],
         ) -> $answer {
@@ -262,8 +370,8 @@ macro_rules! on_log {
                 $call(
                     part,
                     state,
-                    log.as_ptr(),
-                    log.len(),
+                    bytes.as_ptr(),
+                    bytes.len(),
                     cells.as_mut_ptr(),
                     cells.len(),
                     cache.as_mut_ptr(),
@@ -278,13 +386,16 @@ macro_rules! on_log {
     };
 }
 
-on_log!(run, sleet_run, RawAnswer);
-on_log!(judge, sleet_judge, RawJudged);
+on_bytes!(transfer, sleet_transfer, RawAnswer);
+on_bytes!(shifts, sleet_shifts, RawAnswer);
+on_bytes!(run, sleet_run, RawAnswer);
+on_bytes!(judge, sleet_judge, RawJudged);
 
 /// A safe function for an event that takes no output.
 macro_rules! event {
     ($name:ident, $call:ident $(, $argument:ident: $kind:ty)?) => {
         #[doc = concat!("`", stringify!($call), "`.")]
+        #[inline]
         pub fn $name(
             part: Geometry,
             state: State,
@@ -317,11 +428,12 @@ macro_rules! event {
 
 event!(select, sleet_select);
 event!(deselect, sleet_deselect);
-event!(work, sleet_work, units: u16);
+event!(work, sleet_work, units: u64);
 event!(level, sleet_level, level: u8);
 event!(power, sleet_power);
 
 /// `sleet_shift`.
+#[inline]
 pub fn shift(
     part: Geometry,
     state: State,

@@ -1,20 +1,20 @@
 //! Parts: their geometry and identity.
 
-use crate::ffi;
+use crate::{ffi, Job};
 
 /// A part: the bytes of a page, the pages of a block, the blocks, and the two identity bytes.
 ///
-/// Sound: `main` at least 1, `main + spare` at most 4,096, `pages` from 1 to 256, `blocks` at least
+/// Sound: `data` at least 1, `data + spare` at most 4,096, `pages` from 1 to 256, `blocks` at least
 /// 1, `pages * blocks` at most 65,536. Any other is refused with
 /// [`Refusal::BadPart`](crate::Refusal::BadPart).
 #[repr(C)]
 #[derive(Clone, Copy, Debug, PartialEq, Eq, Hash)]
 pub struct Geometry {
-    /// D, data bytes a page.
-    pub main: u32,
-    /// S, spare bytes a page.
+    /// D, data bytes per page.
+    pub data: u32,
+    /// S, spare bytes per page.
     pub spare: u32,
-    /// K, pages a block.
+    /// K, pages per block.
     pub pages: u32,
     /// N, blocks.
     pub blocks: u32,
@@ -52,5 +52,10 @@ impl Geometry {
     /// The bytes of the page counts, one a page; 0 for a geometry that is not sound.
     pub fn counts_len(&self) -> usize {
         ffi::counts_length(*self)
+    }
+
+    /// How many units of array work a job has; 0 for a geometry that is not sound.
+    pub fn operation_len(&self, job: Job) -> usize {
+        ffi::operation_length(*self, job.number())
     }
 }

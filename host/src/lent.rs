@@ -27,7 +27,7 @@ pub struct Answer {
     pub records: usize,
     /// Log bytes used: those of the records done.
     pub used: usize,
-    /// Output bytes written: one a shift.
+    /// Output bytes written: one per shift.
     pub written: usize,
     /// Why it stopped; none where the log was read to its end.
     pub refusal: Option<Refusal>,
@@ -41,6 +41,7 @@ impl Answer {
 }
 
 impl From<ffi::RawAnswer> for Answer {
+    #[inline]
     fn from(raw: ffi::RawAnswer) -> Self {
         Answer {
             state: raw.state,
@@ -52,10 +53,56 @@ impl From<ffi::RawAnswer> for Answer {
     }
 }
 
+/// A whole transfer: chip select falls, `di` goes in while as many bytes come out, chip select
+/// rises.
+///
+/// It is the run of those records, and refused as that run is. Where the output has room for r bytes
+/// only, it is [`Refusal::NoRoom`] behind r of them, with the chip left selected: [`shifts`] with
+/// the bytes that are left and [`deselect`] complete it. `used` is 0, for no log was lent.
+///
+/// On a chip that is selected already the bytes continue the old transfer.
+#[inline]
+pub fn transfer(
+    geometry: &Geometry,
+    state: State,
+    di: &[u8],
+    memory: &mut Memory<'_>,
+    out: &mut [u8],
+) -> Answer {
+    ffi::transfer(*geometry, state, di, memory, out).into()
+}
+
+/// A piece of a transfer: the bytes alone, with chip select as it is.
+#[inline]
+pub fn shifts(
+    geometry: &Geometry,
+    state: State,
+    di: &[u8],
+    memory: &mut Memory<'_>,
+    out: &mut [u8],
+) -> Answer {
+    ffi::shifts(*geometry, state, di, memory, out).into()
+}
+
+/// The byte that the next shift will put on DO, whatever is shifted in. It needs the cache register
+/// alone, and is refused with [`Refusal::BadPart`], [`Refusal::BadCache`] or [`Refusal::BadState`].
+#[inline]
+pub fn peek(geometry: &Geometry, state: State, cache: &[u8]) -> Result<u8, Refusal> {
+    let peeked = ffi::peek(*geometry, state, cache);
+    Refusal::of_answer(peeked.refusal).map_or(Ok(peeked.byte), Err)
+}
+
+/// Make the memory that of a device which was never used: cells and cache register FFh, page counts
+/// 0. It is refused as a run from power-up would be, and then not a byte is changed.
+pub fn blank(geometry: &Geometry, memory: &mut Memory<'_>) -> Result<(), Refusal> {
+    Refusal::of_answer(ffi::blank(*geometry, memory)).map_or(Ok(()), Err)
+}
+
 /// Run a log.
 ///
 /// After a refusal of 1 to 5 nothing has been touched; after 6 to 9 the earlier records stand, and
 /// output past `written` is unchanged.
+#[inline]
 pub fn run(
     geometry: &Geometry,
     state: State,
@@ -85,11 +132,13 @@ pub fn judge(
 }
 
 /// Chip select falls.
+#[inline]
 pub fn select(geometry: &Geometry, state: State, memory: &mut Memory<'_>) -> Answer {
     ffi::select(*geometry, state, memory).into()
 }
 
 /// One byte in on DI; the byte on DO is written to `out[0]`.
+#[inline]
 pub fn shift(
     geometry: &Geometry,
     state: State,
@@ -101,21 +150,27 @@ pub fn shift(
 }
 
 /// Chip select rises.
+#[inline]
 pub fn deselect(geometry: &Geometry, state: State, memory: &mut Memory<'_>) -> Answer {
     ffi::deselect(*geometry, state, memory).into()
 }
 
-/// Array work of some units.
-pub fn work(geometry: &Geometry, state: State, units: u16, memory: &mut Memory<'_>) -> Answer {
+/// Array work of any number of units.
+///
+/// It ends as any work records do whose units add up to it; the answer counts one record.
+#[inline]
+pub fn work(geometry: &Geometry, state: State, units: u64, memory: &mut Memory<'_>) -> Answer {
     ffi::work(*geometry, state, units, memory).into()
 }
 
 /// WP# at a level, 0 low or 1 high; refused with [`Refusal::BadLevel`] above 1.
+#[inline]
 pub fn level(geometry: &Geometry, state: State, level: u8, memory: &mut Memory<'_>) -> Answer {
     ffi::level(*geometry, state, level, memory).into()
 }
 
 /// Power lost and back.
+#[inline]
 pub fn power(geometry: &Geometry, state: State, memory: &mut Memory<'_>) -> Answer {
     ffi::power(*geometry, state, memory).into()
 }

@@ -3,7 +3,7 @@
 //! The model itself is the proved static library behind `sleetanvil.h`; this package is a safe
 //! wrapper over it and adds no behaviour.
 //!
-//! * [`Device`] owns a part's memory and state, and takes bus events or whole logs.
+//! * [`Device`] owns a part's memory and state, and takes transfers, bus events or whole logs.
 //! * [`lent`] has the same calls over borrowed memory, [`raw`] the C interface's own types.
 //! * [`Log`], [`Record`] and [`Records`] write and read bus logs.
 //! * [`paper`] is an independent model of the same part, against which the library is tested and
@@ -15,6 +15,7 @@
 //! let mut device = Device::power_up(Geometry::bench())?;
 //! assert_eq!(device.status(), 0x01);
 //! device.work(20);
+//! assert_eq!(device.units_left(), 0);
 //! assert_eq!(device.transfer(&[0x9F, 0, 0, 0]), [0xFF, 0xFF, 0x5A, 0x01]);
 //! # Ok::<(), sleetanvil::Refusal>(())
 //! ```
@@ -46,8 +47,9 @@ pub use state::{Job, Operation, State};
 /// The C interface's own structs and functions, one safe function for each.
 pub mod raw {
     pub use crate::ffi::{
-        bench, cache_length, cells_length, counts_length, deselect, fm25s005bi3, geometry_sound,
-        judge, level, next, power, power_up, run, select, shift, state_sound, text, work, write,
-        RawAnswer, RawFound, RawJudged, RawRecord, RawWrote, TEXT,
+        bench, blank, cache_length, cells_length, counts_length, deselect, fm25s005bi3,
+        geometry_sound, judge, level, next, operation_length, peek, power, power_up, run, select,
+        shift, shifts, state_sound, text, transfer, units_left, version, work, write, RawAnswer,
+        RawFound, RawJudged, RawPeeked, RawRecord, RawWrote, TEXT, VERSION,
     };
 }

@@ -53,6 +53,17 @@ pub enum Job {
     Erase,
 }
 
+impl Job {
+    /// The number of the job in [`State::job`].
+    pub fn number(self) -> u8 {
+        match self {
+            Job::Read => 1,
+            Job::Program => 2,
+            Job::Erase => 3,
+        }
+    }
+}
+
 /// An operation of the array in progress.
 #[derive(Clone, Copy, Debug, PartialEq, Eq, Hash)]
 pub struct Operation {
@@ -77,6 +88,13 @@ impl State {
     /// Whether the state is sound on a part.
     pub fn is_sound(&self, geometry: &Geometry) -> bool {
         ffi::state_sound(*geometry, *self)
+    }
+
+    /// How many units the operation in progress has left on a part; 0 while idle, and where part or
+    /// state is not sound.
+    #[inline]
+    pub fn units_left(&self, geometry: &Geometry) -> usize {
+        ffi::units_left(*geometry, *self)
     }
 
     /// OIP: an operation is in progress.

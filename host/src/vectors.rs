@@ -132,7 +132,7 @@ fn setup(numbers: &str) -> Result<Case, String> {
 
     let mut case = Case::bench(&[]);
     case.geometry = Geometry {
-        main: next(),
+        data: next(),
         spare: next(),
         pages: next(),
         blocks: next(),

@@ -9,7 +9,7 @@ mod support;
 use sleetanvil::case::{hex, model, model_on, untouched_output, Buffers, Case, Outcome};
 use sleetanvil::lent;
 use sleetanvil::raw::{self, RawRecord};
-use sleetanvil::{paper, Answer, Geometry, Refusal, State};
+use sleetanvil::{paper, Answer, Geometry, Log, Record, Refusal, State};
 use support::compare::{answer_difference, bytes_difference, difference, library, library_on};
 use support::generate::Generator;
 use support::hunt::{cases, hunt, report, seed};
@@ -49,6 +49,226 @@ fn event_by_event_is_the_whole_run() {
             panic!("seed {seed}, case {number}: {difference}\n{case}");
         }
     }
+}
+
+/// A transfer or a piece of one against the model's own, and against the model's run of its records.
+#[test]
+fn transfers_agree() {
+    let seed = seed() ^ 10;
+    let mut stopped = 0;
+    for number in 0..cases() / 4 {
+        let mut generator = Generator::new(seed, number);
+        let mut case = generator.case();
+        let di = any_transfer(&mut generator.rng, &case.geometry);
+        case.room = match generator.rng.below(4) {
+            0 => generator.rng.within(0, di.len()),
+            1 => di.len() + generator.rng.below(3),
+            _ => di.len(),
+        };
+        let whole = generator.rng.percent(60);
+        let mut log = Log::new();
+        if whole {
+            log.transfer(&di);
+        } else {
+            log.extend(di.iter().map(|&byte| Record::Shift(byte)));
+        }
+        case.log = log.as_bytes().to_vec();
+
+        let got = transfer_of_library(&case, &di, whole);
+        let run = Outcome {
+            answer: Answer {
+                used: 0,
+                ..model(&case).answer
+            },
+            ..model(&case)
+        };
+        for (expected, of) in [(transfer_of_model(&case, &di, whole), "calls"), (run, "run")] {
+            if let Some(difference) = difference(&got, &expected) {
+                panic!("seed {seed}, case {number}, the model's {of}: {difference}\n{case}");
+            }
+        }
+        stopped += u64::from(got.answer.refusal == Some(Refusal::NoRoom));
+    }
+    assert!(stopped > 0, "no transfer stopped for want of room");
+}
+
+/// The bytes of a transfer: any, or those of an instruction with a column and much data.
+fn any_transfer(rng: &mut Rng, geometry: &Geometry) -> Vec<u8> {
+    let codes = [0x03, 0x0B, 0x02, 0x84, 0x0F, 0x9F, 0x1F, 0x13, 0x10, 0xD8, 0x06, 0xFF];
+    let page = (u64::from(geometry.data) + u64::from(geometry.spare)).min(4200) as usize;
+    let length = match rng.below(4) {
+        0 => rng.below(6),
+        1 => 4 + rng.below(page + 8),
+        _ => 1 + rng.below(12),
+    };
+    let mut di: Vec<u8> = (0..length).map(|_| rng.byte()).collect();
+    if let (Some(first), true) = (di.first_mut(), rng.percent(80)) {
+        *first = rng.pick(&codes);
+    }
+    if di.len() > 2 && rng.percent(70) {
+        // A column or a row in the part, mostly.
+        di[1] = (page / 256) as u8 & rng.byte();
+        di[2] = rng.below(page.min(255) + 2) as u8;
+    }
+    di
+}
+
+fn transfer_of_library(case: &Case, di: &[u8], whole: bool) -> Outcome {
+    let mut buffers = case.buffers();
+    let (mut memory, out) = buffers.lent();
+    let call = if whole { lent::transfer } else { lent::shifts };
+    let answer = call(&case.geometry, case.state, di, &mut memory, out);
+    Outcome { answer, buffers }
+}
+
+fn transfer_of_model(case: &Case, di: &[u8], whole: bool) -> Outcome {
+    let mut buffers = case.buffers();
+    let (memory, out) = buffers.lent_to_paper();
+    let call = if whole { paper::transfer } else { paper::shifts };
+    let answer = call(&case.geometry.into(), case.state.into(), di, memory, out).into();
+    Outcome { answer, buffers }
+}
+
+/// A transfer cut off for want of room, the rest of its bytes and a deselect are the whole transfer.
+#[test]
+fn a_transfer_in_pieces_is_the_whole_transfer() {
+    let seed = seed() ^ 11;
+    for number in 0..cases() / 10 {
+        let mut generator = Generator::new(seed, number);
+        let mut case = generator.sound_case();
+        let mut di = any_transfer(&mut generator.rng, &case.geometry);
+        di.push(generator.rng.byte());
+        case.room = di.len();
+        let whole = transfer_of_library(&case, &di, true);
+
+        let room = generator.rng.below(di.len());
+        let mut pieces = case.buffers();
+        let mut rest = pieces.out.split_off(room);
+        let (mut memory, out) = pieces.lent();
+        let first = lent::transfer(&case.geometry, case.state, &di, &mut memory, out);
+        assert_eq!((first.refusal, first.written), (Some(Refusal::NoRoom), room));
+        assert!(first.state.is_selected());
+        let left = &di[room..];
+        let second = lent::shifts(&case.geometry, first.state, left, &mut memory, &mut rest);
+        assert_eq!((second.refusal, second.written), (None, left.len()));
+        let last = lent::deselect(&case.geometry, second.state, &mut memory);
+        pieces.out.append(&mut rest);
+        let answer = Answer {
+            records: first.records + second.records + last.records,
+            used: 0,
+            written: first.written + second.written,
+            ..last
+        };
+        let pieces = Outcome {
+            answer,
+            buffers: pieces,
+        };
+        if let Some(difference) = difference(&pieces, &whole) {
+            panic!("seed {seed}, case {number}, room {room}: {difference}\n{case}");
+        }
+    }
+}
+
+/// Work of any number of units: the model's own, and a run of work records cut at random.
+#[test]
+fn work_agrees() {
+    let seed = seed() ^ 12;
+    for number in 0..cases() / 10 {
+        let mut generator = Generator::new(seed, number);
+        let mut case = generator.case();
+        let rng = &mut generator.rng;
+        let units = match rng.below(4) {
+            0 => rng.below(60) as u64,
+            1 => u64::from(rng.word()),
+            2 => rng.below(1 << 21) as u64,
+            _ => rng.next(),
+        };
+        let mut by_library = case.buffers();
+        let (mut memory, _) = by_library.lent();
+        let answer = lent::work(&case.geometry, case.state, units, &mut memory);
+        let library = Outcome {
+            answer,
+            buffers: by_library,
+        };
+        let mut by_model = case.buffers();
+        let (memory, _) = by_model.lent_to_paper();
+        let answer = paper::work(&case.geometry.into(), case.state.into(), units, memory).into();
+        let expected = Outcome {
+            answer,
+            buffers: by_model,
+        };
+        if let Some(difference) = difference(&library, &expected) {
+            panic!("seed {seed}, case {number}, {units} units: {difference}\n{case}");
+        }
+
+        if units < 1 << 21 {
+            case.log.clear();
+            let mut left = units;
+            while left > 0 {
+                let some = left.min(1 + rng.below(65_535) as u64);
+                case.log.extend([&[4], &(some as u16).to_le_bytes()[..]].concat());
+                left -= some;
+            }
+            let run = model(&case);
+            assert_eq!(run.answer.state, library.answer.state, "{case}");
+            assert_eq!(run.answer.refusal, library.answer.refusal, "{case}");
+            assert_eq!(run.buffers, library.buffers, "{case}");
+        }
+    }
+}
+
+/// What is told between two events: the next byte, the units left, the length of a job.
+#[test]
+fn what_is_told_between_events_agrees() {
+    let seed = seed() ^ 13;
+    for number in 0..cases() / 4 {
+        let mut generator = Generator::new(seed, number);
+        let case = generator.case();
+        let (geometry, part) = (case.geometry, case.geometry.into());
+        let cache = case.cache.bytes();
+        let peeked = lent::peek(&geometry, case.state, &cache);
+        for byte in [0x00, generator.rng.byte(), 0xFF] {
+            let expected = paper::peek(&part, case.state.into(), &cache, byte);
+            let expected = expected.map_err(|refusal| Refusal::from_number(refusal as u8));
+            assert_eq!(peeked.map_err(Some), expected, "case {number}\n{case}");
+        }
+        assert_eq!(
+            case.state.units_left(&geometry),
+            paper::units_left(&part, case.state.into()),
+            "case {number}\n{case}"
+        );
+        let job = generator.rng.below(6) as u8;
+        assert_eq!(
+            raw::operation_length(geometry, job),
+            paper::operation_length(&part, job),
+            "case {number}, job {job}\n{case}"
+        );
+    }
+}
+
+/// Blank memory, of right lengths and of wrong ones.
+#[test]
+fn blank_memory_agrees() {
+    let seed = seed() ^ 14;
+    let mut refused = 0;
+    for number in 0..cases() / 20 {
+        let case = Generator::new(seed, number).case();
+        let (mut library, mut model) = (case.buffers(), case.buffers());
+        let (mut memory, _) = library.lent();
+        let got = lent::blank(&case.geometry, &mut memory).err();
+        let (memory, _) = model.lent_to_paper();
+        let expected = paper::blank(&case.geometry.into(), memory);
+        let expected = expected.and_then(|refusal| Refusal::from_number(refusal as u8));
+        assert_eq!(got, expected, "case {number}\n{case}");
+        assert_eq!(library, model, "case {number}\n{case}");
+        refused += u64::from(got.is_some());
+    }
+    assert!(refused > 0, "no memory was refused");
+}
+
+#[test]
+fn the_archive_is_of_this_package() {
+    assert_eq!(raw::version(), raw::VERSION);
 }
 
 #[test]
@@ -289,7 +509,7 @@ impl Event {
             Event::Select => lent::select(geometry, state, memory),
             Event::Shift(byte) => lent::shift(geometry, state, byte, memory, out),
             Event::Deselect => lent::deselect(geometry, state, memory),
-            Event::Work(units) => lent::work(geometry, state, units, memory),
+            Event::Work(units) => lent::work(geometry, state, units.into(), memory),
             Event::Level(level) => lent::level(geometry, state, level, memory),
             Event::Power => lent::power(geometry, state, memory),
         }

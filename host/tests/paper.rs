@@ -103,7 +103,7 @@ fn protected(geometry: Geometry, a0: u8, expected: &[u16]) {
 #[test]
 fn case_1_the_top_of_512_blocks() {
     let geometry = Geometry {
-        main: 1,
+        data: 1,
         spare: 0,
         pages: 1,
         blocks: 512,
@@ -317,7 +317,7 @@ fn refusals_in_their_order() {
     refused(&case, Refusal::BadCache);
     case.cells.len = 0;
     refused(&case, Refusal::BadCells);
-    case.geometry.main = 0;
+    case.geometry.data = 0;
     refused(&case, Refusal::BadPart);
 
     refused(&sound, Refusal::BadKind);

@@ -38,6 +38,64 @@ fn a_page_is_programmed_and_read_back() {
 }
 
 #[test]
+fn a_transfer_is_one_call_or_comes_in_pieces() {
+    let mut device = ready();
+    let mut in_pieces = device.clone();
+    let id = [0x9F, 0x00, 0x00, 0x00, 0x00];
+    assert_eq!(device.peek(), 0xFF);
+    let whole = device.transfer(&id);
+    assert_eq!(whole, [0xFF, 0xFF, 0x5A, 0x01, 0xFF]);
+
+    in_pieces.select();
+    let mut out = in_pieces.shifts(&id[..2]);
+    assert_eq!(in_pieces.peek(), 0x5A);
+    out.extend(in_pieces.shifts(&id[2..]));
+    in_pieces.deselect();
+    assert_eq!(out, whole);
+    assert_eq!(in_pieces, device);
+}
+
+#[test]
+#[should_panic(expected = "room for a byte out for each in")]
+fn a_transfer_needs_room_for_its_bytes() {
+    ready().exchange(&[0x9F, 0x00, 0x00], &mut [0; 2]);
+}
+
+#[test]
+fn work_is_counted_down() {
+    let geometry = Geometry::fm25s005bi3();
+    assert_eq!(geometry.operation_len(Job::Read), 2176);
+    assert_eq!(geometry.operation_len(Job::Program), 2176);
+    assert_eq!(geometry.operation_len(Job::Erase), 139_264);
+    let mut device = Device::power_up(geometry).expect("sound");
+    assert_eq!(device.units_left(), 2176);
+    device.work(2175);
+    assert_eq!((device.units_left(), device.status()), (1, 0x01));
+    device.work(1);
+    assert_eq!((device.units_left(), device.status()), (0, 0x00));
+    device.transfer(&[0x1F, 0xA0, 0x00]);
+    device.transfer(&[0x06]);
+    device.transfer(&[0xD8, 0x00, 0x00, 0x00]);
+    device.work(139_263);
+    assert_eq!(device.units_left(), 1);
+    device.work(u64::MAX);
+    assert_eq!(device.units_left(), 0);
+}
+
+#[test]
+fn blank_memory_is_that_of_a_new_device() {
+    let geometry = Geometry::bench();
+    let (mut cells, mut cache, mut counts) = ([0; 640], [0; 20], [7; 32]);
+    let mut memory = Memory {
+        cells: &mut cells,
+        cache: &mut cache,
+        counts: &mut counts,
+    };
+    assert_eq!(lent::blank(&geometry, &mut memory), Ok(()));
+    assert_eq!((cells, cache, counts), ([0xFF; 640], [0xFF; 20], [0; 32]));
+}
+
+#[test]
 fn a_protected_device_fails() {
     let mut device = Device::power_up(Geometry::bench()).expect("sound");
     device.work(20);

@@ -238,7 +238,7 @@ fn program(buffers: &mut Buffers, first: usize, units: usize) {
 /// and poll all along.
 fn mixed(geometry: &Geometry) -> Task {
     let (page, pages) = (geometry.cache_len(), geometry.pages as usize);
-    let main = geometry.main as usize;
+    let data_bytes = geometry.data as usize;
     let first = MIXED_BLOCK * pages;
     let data: Vec<u8> = (0..page).map(|place| place as u8 ^ 0xA5).collect();
 
@@ -252,7 +252,7 @@ fn mixed(geometry: &Geometry) -> Task {
     for place in 0..MIXED_PAGES {
         driver.transfer(&[0x06]);
         if place % 2 == 0 {
-            driver.transfer(&load(0x02, &data[..main]));
+            driver.transfer(&load(0x02, &data[..data_bytes]));
         } else {
             driver.transfer(&load(0x84, &data));
         }
@@ -271,7 +271,7 @@ fn mixed(geometry: &Geometry) -> Task {
         for place in 0..MIXED_PAGES {
             if place % 2 == 0 {
                 buffers.cache.fill(0xFF);
-                buffers.cache[..main].copy_from_slice(&data[..main]);
+                buffers.cache[..data_bytes].copy_from_slice(&data[..data_bytes]);
             } else {
                 buffers.cache.copy_from_slice(&data);
             }

@@ -22,7 +22,9 @@
 //! | `state` | the state as plain numbers, and when it is sound |
 //! | `run` | a log run on a device: the checks, then record by record |
 //! | `orderly` | whether demand 3 speaks of a log |
+//! | `calls` | what a simulator calls beside a log: transfers, long work, the next byte, the units left |
 
+mod calls;
 mod instructions;
 mod log;
 mod orderly;
@@ -34,6 +36,7 @@ mod state;
 mod transfer;
 mod work;
 
+pub use calls::{blank, operation_length, peek, shifts, transfer, units_left, work};
 pub use log::{next, write, Record};
 pub use orderly::judge;
 pub use part::Part;

@@ -22,6 +22,19 @@ pub struct Answer {
     pub refusal: Option<Refusal>,
 }
 
+impl Answer {
+    /// Nothing done yet.
+    pub(super) fn nothing(state: State) -> Answer {
+        Answer {
+            state,
+            records: 0,
+            used: 0,
+            written: 0,
+            refusal: None,
+        }
+    }
+}
+
 /// Run a log on a device.
 pub fn run(part: &Part, state: State, log: &[u8], memory: Memory, out: &mut [u8]) -> Answer {
     run_seen(part, state, log, memory, out, |_, _| {})
@@ -36,13 +49,7 @@ pub(super) fn run_seen(
     out: &mut [u8],
     seen: impl FnMut(&Device, Record),
 ) -> Answer {
-    let mut answer = Answer {
-        state,
-        records: 0,
-        used: 0,
-        written: 0,
-        refusal: None,
-    };
+    let mut answer = Answer::nothing(state);
     match Device::new(part, &state, memory) {
         Ok(mut device) => {
             answer.refusal = device.replay(log, out, &mut answer, seen).err();
@@ -62,7 +69,7 @@ pub(super) struct Device<'a> {
 
 impl<'a> Device<'a> {
     /// The checks 1 to 5, in their order.
-    fn new(part: &Part, state: &State, memory: Memory<'a>) -> Result<Self, Refusal> {
+    pub fn new(part: &Part, state: &State, memory: Memory<'a>) -> Result<Self, Refusal> {
         let array = part.array().ok_or(Refusal::BadPart)?;
         if memory.cells.len() != array.cells() {
             return Err(Refusal::BadCells);

@@ -15,7 +15,7 @@ pub(super) enum Job {
 }
 
 impl Job {
-    fn length(self, array: &Array) -> usize {
+    pub fn length(self, array: &Array) -> usize {
         match self {
             Job::Read | Job::Program => array.page,
             Job::Erase => array.page * array.pages,
@@ -80,7 +80,7 @@ impl Device<'_> {
         let Operation { job, row, .. } = *operation;
         let length = job.length(&self.array);
         let from = operation.units;
-        let to = length.min(from + units);
+        let to = length.min(from.saturating_add(units));
         operation.units = to;
         if to == length {
             self.machine.operation = None;

@@ -74,13 +74,13 @@ impl Generator {
 
     pub fn sound_geometry(&mut self) -> Geometry {
         let rng = &mut self.rng;
-        let (main, spare, pages, blocks) = match rng.below(20) {
+        let (data, spare, pages, blocks) = match rng.below(20) {
             0 | 1 => return Geometry::bench(),
             2 => (1, 0, 1, 1),
             3 => {
                 let page = rng.within(250, 4096);
-                let main = rng.within(1, page);
-                (main, page - main, rng.within(1, 2), rng.within(1, 2))
+                let data = rng.within(1, page);
+                (data, page - data, rng.within(1, 2), rng.within(1, 2))
             }
             4 if rng.percent(3) => rng.pick(&[
                 (1, 0, 256, 256),
@@ -100,7 +100,7 @@ impl Generator {
             ),
         };
         let mut geometry = Geometry {
-            main: main as u32,
+            data: data as u32,
             spare: spare as u32,
             pages: pages as u32,
             blocks: blocks as u32,
@@ -118,10 +118,10 @@ impl Generator {
             let huge = [u32::MAX, 0x8000_0000, 0x0100_0000, 0x0001_0000, 4097, 257];
             let large = rng.pick(&huge).wrapping_sub(rng.below(3) as u32);
             match rng.below(10) {
-                0 => geometry.main = 0,
-                1 => geometry.main = large,
+                0 => geometry.data = 0,
+                1 => geometry.data = large,
                 2 => geometry.spare = large,
-                3 => geometry.spare = 4097 - geometry.main,
+                3 => geometry.spare = 4097 - geometry.data,
                 4 => geometry.pages = 0,
                 5 => geometry.pages = large,
                 6 => geometry.blocks = 0,
@@ -129,7 +129,7 @@ impl Generator {
                 8 => geometry.blocks = 65_536 / geometry.pages + 1,
                 _ => {
                     // Sums and products that would come out small in 32 bits.
-                    geometry.main = u32::MAX - rng.below(3) as u32;
+                    geometry.data = u32::MAX - rng.below(3) as u32;
                     geometry.spare = rng.within(1, 20) as u32;
                     geometry.pages = 1 << rng.within(0, 8);
                     geometry.blocks = (1 << rng.within(24, 31)) + rng.below(8) as u32;
@@ -311,9 +311,9 @@ fn instruction(rng: &mut Rng) -> u16 {
 /// sound.
 fn sizes(geometry: &Geometry) -> (usize, usize, usize) {
     let clamp = |number: u64| number.clamp(1, 70_000) as usize;
-    let (main, spare) = (u64::from(geometry.main), u64::from(geometry.spare));
+    let (data, spare) = (u64::from(geometry.data), u64::from(geometry.spare));
     let (pages, blocks) = (u64::from(geometry.pages), u64::from(geometry.blocks));
-    (clamp(main + spare), clamp(pages), clamp(pages * blocks))
+    (clamp(data + spare), clamp(pages), clamp(pages * blocks))
 }
 
 /// A column: within the page, at its end, past it, and at the last that two bytes can name.

@@ -120,7 +120,7 @@ fn beside(path: &Path) -> PathBuf {
 fn header(geometry: &Geometry) -> [u8; HEADER] {
     let numbers = [
         VERSION,
-        geometry.main,
+        geometry.data,
         geometry.spare,
         geometry.pages,
         geometry.blocks,

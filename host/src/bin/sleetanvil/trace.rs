@@ -110,7 +110,7 @@ impl<'a, W: Write> Tracer<'a, W> {
 
     fn work(&mut self, units: u16) -> io::Result<()> {
         let before = *self.device.state();
-        self.device.work(units);
+        self.device.work(units.into());
         let plural = if units == 1 { "" } else { "s" };
         let mut text = format!("work of {units} unit{plural}: ");
         match before.operation() {
