@@ -1,12 +1,16 @@
-//! The benchmark: the proved library against the paper's model and against the limit, on the
-//! FM25S005BI3.
+//! The benchmark: the proved library against the paper's model, against a naive model in memory and
+//! against the limit, on the FM25S005BI3.
 //!
-//! The limit is the least that must happen to the same bytes: a copy, an AND, a fill. All three run
-//! in turn, round after round, on the same memory, and each one's best round counts: what else the
-//! machine does can only make a round longer. The last two columns are speeds: above 1 the library
-//! is the faster. Work of n units is given less what the same call costs with one unit, so that
-//! the units are compared and not the call; what a call costs has rows of its own. Run it with
+//! The limit is the least that must happen to the same bytes: a copy, an AND, a fill. All contenders
+//! run in turn, round after round, on the same memory (the naive model has its own), and each one's
+//! best round counts: what else the machine does can only make a round longer. The last columns are
+//! speeds: above 1 the library is the faster. Work of n units is given less what the same call costs
+//! with one unit, so that the units are compared and not the call; what a call costs has rows of its
+//! own, with the paper's model behind the same structs by value. Run it with
 //! `cargo run --release --bin bench`.
+
+mod calls;
+mod naive;
 
 use std::hint::black_box;
 use std::time::{Duration, Instant};
@@ -26,11 +30,14 @@ const BLOCK: usize = 200;
 
 fn main() {
     println!("The best of {ROUNDS} rounds.\n");
-    println!("| on FM25S005BI3 | library | Rust model | limit | speed, Rust model = 1 | speed, limit = 1 |");
-    println!("|---|---|---|---|---|---|");
+    println!(
+        "| on FM25S005BI3 | library | Rust model | naive model | limit | speed, Rust model = 1 | speed, naive model = 1 | speed, limit = 1 |"
+    );
+    println!("|---|---|---|---|---|---|---|---|");
     let geometry = Geometry::fm25s005bi3();
     compare(&geometry, tasks(&geometry));
-    println!("| on the bench part | | | | | |");
+    calls::compare(&geometry, &mut buffers(&geometry));
+    println!("| on the bench part | | | | | | | |");
     compare(&Geometry::bench(), vec![nothing()]);
 }
 
@@ -39,12 +46,13 @@ fn compare(geometry: &Geometry, tasks: Vec<Task>) {
     let mut buffers = buffers(geometry);
     for task in tasks {
         check(&task, geometry, &mut buffers);
-        let times = measure(&task, &task.log, geometry, &mut buffers);
-        let less = task
-            .less
-            .as_ref()
-            .map(|log| measure(&task, log, geometry, &mut buffers));
-        println!("{}", row(&task, times, less));
+        let mut times = measure(&task, &task.log, geometry, &mut buffers);
+        if let Some(log) = &task.less {
+            let less = measure(&task, log, geometry, &mut buffers);
+            times.library -= less.library;
+            times.model -= less.model;
+        }
+        println!("{}", times.row(task.name, task.per, task.count));
     }
 }
 
@@ -63,7 +71,69 @@ fn buffers(geometry: &Geometry) -> Buffers {
     buffers
 }
 
-/// Something to do, in three ways.
+/// The best times of the contenders, in seconds a run.
+struct Times {
+    library: f64,
+    model: f64,
+    naive: Option<f64>,
+    limit: Option<f64>,
+}
+
+impl Times {
+    /// The row of the table for something that a run does so many times.
+    fn row(&self, name: &str, per: &str, count: usize) -> String {
+        let time = |seconds: f64| {
+            let nanoseconds = seconds * 1e9 / count as f64;
+            match nanoseconds {
+                0.0..100.0 => format!("{nanoseconds:.2} ns"),
+                100.0..10_000.0 => format!("{nanoseconds:.0} ns"),
+                _ => format!("{:.1} us", nanoseconds / 1e3),
+            }
+        };
+        let speed = |other: f64| format!("{:.2}", other / self.library);
+        let or_blank = |what: Option<String>| what.unwrap_or_default();
+        format!(
+            "| {name}, one {per} | {} | {} | {} | {} | {} | {} | {} |",
+            time(self.library),
+            time(self.model),
+            or_blank(self.naive.map(time)),
+            or_blank(self.limit.map(time)),
+            speed(self.model),
+            or_blank(self.naive.map(speed)),
+            or_blank(self.limit.map(speed)),
+        )
+    }
+}
+
+/// Something that is measured: one run of it on the shared memory.
+type Contender<'a> = Box<dyn FnMut(&mut Buffers) + 'a>;
+
+/// The best time of each contender, in seconds a run.
+fn best<const N: usize>(mut contenders: [Contender<'_>; N], buffers: &mut Buffers) -> [f64; N] {
+    let mut turn = |contender: &mut Contender<'_>, runs: usize| {
+        let start = Instant::now();
+        for _ in 0..runs {
+            contender(buffers);
+            black_box(&mut *buffers);
+        }
+        start.elapsed().as_secs_f64() / runs as f64
+    };
+    let runs = contenders.each_mut().map(|contender| {
+        turn(contender, 8);
+        let one = turn(contender, 16).max(1e-9);
+        (TURN.as_secs_f64() / one).ceil() as usize
+    });
+    let mut best = [f64::INFINITY; N];
+    for round in 0..ROUNDS {
+        for place in 0..N {
+            let which = (round + place) % N;
+            best[which] = best[which].min(turn(&mut contenders[which], runs[which]));
+        }
+    }
+    best
+}
+
+/// Something to do with a log, in three ways.
 struct Task {
     name: &'static str,
     /// What the time is given for, and how many of it a run has.
@@ -345,71 +415,33 @@ fn check(task: &Task, geometry: &Geometry, buffers: &mut Buffers) {
     }
 }
 
-/// The best times of library, model and limit, in seconds a run; 0 for no limit.
-fn measure(task: &Task, log: &Log, geometry: &Geometry, buffers: &mut Buffers) -> [f64; 3] {
-    type Contender<'a> = Box<dyn Fn(&State, &mut Buffers) + 'a>;
-    let contenders: [Contender<'_>; 3] = [
-        Box::new(|state, buffers| {
-            let _ = black_box(run_library(black_box(log), state, geometry, buffers));
-        }),
-        Box::new(|state, buffers| {
-            black_box(run_paper(black_box(log), state, geometry, buffers));
-        }),
-        Box::new(|state, buffers| {
-            if let Some(limit) = &task.limit {
-                limit(black_box(state), buffers);
-            }
-        }),
-    ];
-    let mut turn = |contender: &Contender<'_>, runs: usize| {
-        let start = Instant::now();
-        for state in task.states.iter().cycle().take(runs) {
-            contender(state, buffers);
-            black_box(&mut *buffers);
-        }
-        start.elapsed().as_secs_f64() / runs as f64
-    };
-
-    let runs = contenders.each_ref().map(|contender| {
-        turn(contender, 8);
-        let one = turn(contender, 16).max(1e-9);
-        (TURN.as_secs_f64() / one).ceil() as usize
-    });
-    let mut best = [f64::INFINITY; 3];
-    for round in 0..ROUNDS {
-        for place in 0..3 {
-            let which = (round + place) % 3;
-            best[which] = best[which].min(turn(&contenders[which], runs[which]));
-        }
+/// The best times of library, model and limit.
+fn measure(task: &Task, log: &Log, geometry: &Geometry, buffers: &mut Buffers) -> Times {
+    let states = || task.states.iter().cycle();
+    let (mut first, mut second, mut third) = (states(), states(), states());
+    let [library, model, limit] = best(
+        [
+            Box::new(|buffers| {
+                let state = first.next().expect("a state");
+                let _ = black_box(run_library(black_box(log), state, geometry, buffers));
+            }),
+            Box::new(|buffers| {
+                let state = second.next().expect("a state");
+                black_box(run_paper(black_box(log), state, geometry, buffers));
+            }),
+            Box::new(|buffers| {
+                let state = third.next().expect("a state");
+                if let Some(limit) = &task.limit {
+                    limit(black_box(state), buffers);
+                }
+            }),
+        ],
+        buffers,
+    );
+    Times {
+        library,
+        model,
+        naive: None,
+        limit: task.limit.is_some().then_some(limit),
     }
-    best
-}
-
-/// The row of the table for a task.
-fn row(task: &Task, times: [f64; 3], less: Option<[f64; 3]>) -> String {
-    let [mut library, mut paper, limit] = times;
-    if let Some([library_less, paper_less, _]) = less {
-        library -= library_less;
-        paper -= paper_less;
-    }
-    let time = |seconds: f64| {
-        let nanoseconds = seconds * 1e9 / task.count as f64;
-        match nanoseconds {
-            0.0..100.0 => format!("{nanoseconds:.2} ns"),
-            100.0..10_000.0 => format!("{nanoseconds:.0} ns"),
-            _ => format!("{:.1} us", nanoseconds / 1e3),
-        }
-    };
-    let (limit, against) = match task.limit {
-        Some(_) => (time(limit), format!("{:.2}", limit / library)),
-        None => (String::new(), String::new()),
-    };
-    format!(
-        "| {}, one {} | {} | {} | {limit} | {:.2} | {against} |",
-        task.name,
-        task.per,
-        time(library),
-        time(paper),
-        paper / library
-    )
 }

@@ -1,0 +1,183 @@
+//! What a call costs: one event a call, one transfer a call, a log judged. The library is called as
+//! from C; the paper's model stands behind functions with the same structs by value.
+
+use std::hint::black_box;
+
+use sleetanvil::case::Buffers;
+use sleetanvil::raw::{self, RawAnswer};
+use sleetanvil::{lent, paper, Geometry, Log, State};
+
+use super::naive::Naive;
+use super::{best, idle, load, mixed, Times};
+
+const POLL: [u8; 3] = [0x0F, 0xC0, 0x00];
+
+/// A row for each kind of call.
+pub fn compare(geometry: &Geometry, buffers: &mut Buffers) {
+    let page = geometry.cache_len();
+    let mut read_out = vec![0x03, 0x00, 0x00, 0x00];
+    read_out.resize(4 + page, 0x00);
+    let load_in = load(0x84, &vec![0x5A; page]);
+    let mut naive = naive(geometry);
+
+    let times = events(geometry, buffers, &mut naive);
+    println!("{}", times.row("one event a call, polls", "event", POLL.len() + 2));
+    for (name, di) in [
+        ("one transfer a call, a poll", &POLL[..]),
+        ("one transfer a call, a page read out", &read_out),
+        ("one transfer a call, a page loaded", &load_in),
+    ] {
+        check(geometry, buffers, &mut naive, di);
+        let times = transfers(geometry, buffers, &mut naive, di);
+        println!("{}", times.row(name, "transfer", 1));
+    }
+    let mixed = mixed(geometry);
+    let times = judgement(geometry, buffers, &mixed.log);
+    println!("{}", times.row("judge, mixed driver log", "record", mixed.count));
+}
+
+fn naive(geometry: &Geometry) -> Naive {
+    let (pages, blocks) = (geometry.pages as usize, geometry.blocks as usize);
+    Naive::new(geometry.cache_len(), pages, blocks, geometry.identity)
+}
+
+/// All three answer a transfer alike.
+fn check(geometry: &Geometry, buffers: &mut Buffers, naive: &mut Naive, di: &[u8]) {
+    naive.cache().copy_from_slice(&buffers.cache);
+    let (mut memory, out) = buffers.lent();
+    let library = raw::transfer(*geometry, idle(), di, &mut memory, out);
+    assert_eq!((library.refusal, library.written), (0, di.len()));
+    let by_library = out[..di.len()].to_vec();
+    let model = transfer_by_value(*geometry, idle(), di, buffers);
+    assert_eq!(library, model);
+    assert_eq!(by_library, buffers.out[..di.len()]);
+    naive.transfer(di, &mut buffers.out);
+    assert_eq!(by_library, buffers.out[..di.len()]);
+    assert_eq!(naive.cache()[..], buffers.cache[..]);
+}
+
+/// A poll of the status register, event by event.
+fn events(geometry: &Geometry, buffers: &mut Buffers, naive: &mut Naive) -> Times {
+    let (mut first, mut second) = (idle(), idle());
+    let [library, model, naive] = best(
+        [
+            Box::new(|buffers| {
+                let (mut memory, out) = buffers.lent();
+                first = raw::select(*geometry, first, &mut memory).state;
+                for byte in black_box(POLL) {
+                    first = raw::shift(*geometry, first, byte, &mut memory, out).state;
+                }
+                first = raw::deselect(*geometry, first, &mut memory).state;
+            }),
+            Box::new(|buffers| {
+                second = event_by_value(*geometry, second, &[1], buffers).state;
+                for byte in black_box(POLL) {
+                    second = event_by_value(*geometry, second, &[2, byte], buffers).state;
+                }
+                second = event_by_value(*geometry, second, &[3], buffers).state;
+            }),
+            Box::new(|buffers| {
+                naive.select();
+                for byte in black_box(POLL) {
+                    buffers.out[0] = naive.shift(byte);
+                }
+                naive.deselect();
+            }),
+        ],
+        buffers,
+    );
+    assert_eq!(first, second);
+    Times {
+        library,
+        model,
+        naive: Some(naive),
+        limit: None,
+    }
+}
+
+/// One transfer.
+fn transfers(geometry: &Geometry, buffers: &mut Buffers, naive: &mut Naive, di: &[u8]) -> Times {
+    let (mut first, mut second) = (idle(), idle());
+    let [library, model, naive] = best(
+        [
+            Box::new(|buffers| {
+                let (mut memory, out) = buffers.lent();
+                first = raw::transfer(*geometry, first, black_box(di), &mut memory, out).state;
+            }),
+            Box::new(|buffers| {
+                second = transfer_by_value(*geometry, second, black_box(di), buffers).state;
+            }),
+            Box::new(|buffers| naive.transfer(black_box(di), &mut buffers.out)),
+        ],
+        buffers,
+    );
+    assert_eq!(first, second);
+    Times {
+        library,
+        model,
+        naive: Some(naive),
+        limit: None,
+    }
+}
+
+/// A log judged.
+fn judgement(geometry: &Geometry, buffers: &mut Buffers, log: &Log) -> Times {
+    let state = State::power_up();
+    let (mut memory, out) = buffers.lent();
+    let (_, orderly) = lent::judge(geometry, state, log.as_bytes(), &mut memory, out);
+    let (memory, out) = buffers.lent_to_paper();
+    let (_, as_model) = paper::judge(
+        &(*geometry).into(),
+        state.into(),
+        log.as_bytes(),
+        memory,
+        out,
+    );
+    assert_eq!(orderly, as_model);
+    let [library, model] = best(
+        [
+            Box::new(|buffers| {
+                let (mut memory, out) = buffers.lent();
+                let log = black_box(log).as_bytes();
+                black_box(raw::judge(*geometry, state, log, &mut memory, out));
+            }),
+            Box::new(|buffers| {
+                let (memory, out) = buffers.lent_to_paper();
+                let log = black_box(log).as_bytes();
+                let part = (*geometry).into();
+                black_box(paper::judge(&part, state.into(), log, memory, out));
+            }),
+        ],
+        buffers,
+    );
+    Times {
+        library,
+        model,
+        naive: None,
+        limit: None,
+    }
+}
+
+/// The paper's model on one event, as the library's functions take and give it.
+#[inline(never)]
+fn event_by_value(part: Geometry, state: State, log: &[u8], buffers: &mut Buffers) -> RawAnswer {
+    let (memory, out) = buffers.lent_to_paper();
+    raw_answer(paper::run(&part.into(), state.into(), log, memory, out))
+}
+
+/// The same on a transfer.
+#[inline(never)]
+fn transfer_by_value(part: Geometry, state: State, di: &[u8], buffers: &mut Buffers) -> RawAnswer {
+    let (memory, out) = buffers.lent_to_paper();
+    raw_answer(paper::transfer(&part.into(), state.into(), di, memory, out))
+}
+
+fn raw_answer(answer: paper::Answer) -> RawAnswer {
+    RawAnswer {
+        state: answer.state.into(),
+        records: answer.records,
+        used: answer.used,
+        written: answer.written,
+        refusal: paper::Refusal::number(answer.refusal),
+    }
+}
