@@ -1,8 +1,8 @@
-//! The C test, compiled as C11 and as C++ with every warning an error, linked with the library, and
-//! run.
+//! The headers from C and from C++: the tests in `c/`, compiled under each standard with every
+//! warning an error, linked with the library, and run.
 //!
 //! `CC` and `CXX` name other compilers, with arguments behind the name if need be, and
-//! `SLEETANVIL_INCLUDE` another folder of the header than `../include`.
+//! `SLEETANVIL_INCLUDE` another folder of the headers than `../include`.
 
 mod support;
 
@@ -10,39 +10,128 @@ use std::env;
 use std::path::{Path, PathBuf};
 use std::process::Command;
 
-const STRICT: [&str; 4] = ["-Wall", "-Wextra", "-Werror", "-pedantic"];
+const STRICT: [&str; 6] = [
+    "-Wall",
+    "-Wextra",
+    "-Werror",
+    "-pedantic",
+    "-Wconversion",
+    "-Wshadow",
+];
+
+/// The standards of C, each by the names that compilers have for it: the first one known is taken.
+const C: [&[&str]; 4] = [&["c99"], &["c11"], &["c17"], &["c23", "c2x"]];
+
+/// The standards of C++.
+const CPP: [&[&str]; 4] = [&["c++11"], &["c++14"], &["c++17"], &["c++20"]];
 
 #[test]
-fn from_c() {
-    compile_and_run("CC", "cc", &["-x", "c", "-std=c11"], "run_log_c");
+fn sleetanvil_h_from_c() {
+    for names in C {
+        Compiler::c(names).run_test("run_log.c", &[]);
+    }
 }
 
 #[test]
-fn from_cpp() {
-    compile_and_run("CXX", "c++", &["-x", "c++", "-std=c++11"], "run_log_cpp");
+fn sleetanvil_device_h_from_c() {
+    for names in C {
+        Compiler::c(names).run_test("device.c", &[]);
+    }
 }
 
-fn compile_and_run(variable: &str, usual: &str, language: &[&str], name: &str) {
-    let package = Path::new(env!("CARGO_MANIFEST_DIR"));
-    let header =
-        env::var_os("SLEETANVIL_INCLUDE").map_or_else(|| package.join("../include"), PathBuf::from);
-    let program = Path::new(env!("CARGO_TARGET_TMPDIR")).join(name);
-    let compiler = env::var(variable).unwrap_or_else(|_| usual.into());
-    let mut words = compiler.split_whitespace();
-    let mut compile = Command::new(words.next().expect("a compiler's name"));
-    compile
-        .args(words)
-        .args(language)
-        .args(STRICT)
-        .arg("-I")
-        .arg(header)
-        .arg(package.join("tests/c/run_log.c"))
-        .args(["-x", "none"])
-        .arg(env!("SLEETANVIL_ARCHIVE"))
-        .arg("-o")
-        .arg(&program);
-    run(&mut compile);
-    run(&mut support::program(&program));
+#[test]
+fn sleetanvil_hpp_from_cpp() {
+    for names in CPP {
+        Compiler::cpp(names).run_test("device.cpp", &["-Wold-style-cast"]);
+    }
+}
+
+/// The C tests are C++ too. One is run as the first C++; all are compiled as each.
+#[test]
+fn c_headers_from_cpp() {
+    Compiler::cpp(CPP[0]).run_test("run_log.c", &[]);
+    for names in CPP {
+        let compiler = Compiler::cpp(names);
+        for source in ["run_log.c", "device.c"] {
+            run(compiler.strict(source).arg("-fsyntax-only"));
+        }
+    }
+}
+
+/// A compiler with a language and a standard.
+struct Compiler {
+    words: Vec<String>,
+    standard: String,
+}
+
+impl Compiler {
+    fn c(names: &[&str]) -> Self {
+        Compiler::find("CC", "cc", "c", names)
+    }
+
+    fn cpp(names: &[&str]) -> Self {
+        Compiler::find("CXX", "c++", "c++", names)
+    }
+
+    /// The compiler with the first of a standard's names that it knows; it has to know one.
+    fn find(variable: &str, usual: &str, language: &str, names: &[&str]) -> Self {
+        let named = env::var(variable).unwrap_or_else(|_| usual.into());
+        let words = named.split_whitespace().chain(["-x", language]);
+        let words: Vec<String> = words.map(String::from).collect();
+        let mut compilers = names.iter().map(|&name| Compiler {
+            words: words.clone(),
+            standard: name.into(),
+        });
+        let known = compilers.find(Compiler::knows);
+        known.unwrap_or_else(|| panic!("{named}: not there, or knows no {}", names.join(" or ")))
+    }
+
+    /// A call of the compiler under the standard.
+    fn call(&self) -> Command {
+        let mut command = Command::new(self.words.first().expect("a compiler's name"));
+        command
+            .args(&self.words[1..])
+            .arg(format!("-std={}", self.standard));
+        command
+    }
+
+    /// Whether the compiler knows the standard: whether it takes an empty file under that name.
+    fn knows(&self) -> bool {
+        let mut command = self.call();
+        command.args(["-fsyntax-only", "/dev/null"]);
+        match command.output() {
+            Ok(output) => output.status.success(),
+            Err(error) => panic!("{command:?}: {error}"),
+        }
+    }
+
+    /// A call on a file of `c/` with every warning an error.
+    fn strict(&self, source: &str) -> Command {
+        let package = Path::new(env!("CARGO_MANIFEST_DIR"));
+        let headers = env::var_os("SLEETANVIL_INCLUDE")
+            .map_or_else(|| package.join("../include"), PathBuf::from);
+        let mut command = self.call();
+        command
+            .args(STRICT)
+            .arg("-I")
+            .arg(headers)
+            .arg(package.join("tests/c").join(source));
+        command
+    }
+
+    /// Compile a test, link it with the library, and run it.
+    fn run_test(&self, source: &str, more: &[&str]) {
+        let name = format!("{source}_{}", self.standard).replace(['.', '+'], "_");
+        let program = Path::new(env!("CARGO_TARGET_TMPDIR")).join(name);
+        run(self
+            .strict(source)
+            .args(more)
+            .args(["-x", "none"])
+            .arg(env!("SLEETANVIL_ARCHIVE"))
+            .arg("-o")
+            .arg(&program));
+        run(&mut support::program(&program));
+    }
 }
 
 /// Run a command, which has to end well.

@@ -1,2 +1,4 @@
 pub mod Feeding
 pub mod Records
+pub mod Pieces
+pub mod OneAnswer

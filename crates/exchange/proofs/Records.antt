@@ -1,7 +1,7 @@
 -- The records of bytes on the bus: their log is read to its end, what of it fits, and what its run leaves.
 use mathlib.Core.Bool.{true}
 use mathlib.Core.List.{List, [], _∷_, _++_, append-nil}
-use mathlib.Core.Path.{_≡_, refl, sym, ap, _∙_}
+use mathlib.Core.Path.{_≡_, refl, sym, ap, ap₂, _∙_}
 use Prim.Native.Nat.{ℕ, zero, suc, _+_, _-_, _≤_, _<_, min}
 use native.Mathlib.Numerals.{add-one}
 use native.Mathlib.Omega.{arith}
@@ -10,27 +10,30 @@ use lib.ListN.{length, take, drop, length-append}
 use lib.Seq.{take-all, length-take-le}
 use borrow.Author.Tests.{lt-ltb, le-ltb}
 use Rattle.part.specs.Choice.{if_then_else_}
+use Rattle.part.specs.Part.{Sound}
 use Rattle.part.specs.declared.Geometry.{Geometry}
-use Rattle.buslog.specs.Log.{written, levelsSound}
+use Rattle.buslog.specs.Log.{written, levelsSound, Bytes}
 use Rattle.buslog.specs.Read.{parse}
+use Rattle.buslog.specs.Write.{over}
 use Rattle.buslog.specs.declared.Record.{Record}
 use Rattle.buslog.specs.declared.Record.the-variants.{Select, Shift, Deselect}
 use Rattle.buslog.proofs.Logs.{parse-written}
 use Rattle.transfer.specs.Transfer.{selects}
-use Rattle.device.specs.Machine.{Machine, onCache, onCounts, busIn, overBus}
-use Rattle.device.specs.Work.{Array}
+use Rattle.device.specs.Machine.{Machine, overBus}
+use Rattle.device.specs.Work.{Array, stepping}
 use Rattle.device.specs.Instructions.{answer, shifts, deselects}
 use Rattle.device.specs.Step.{step, run}
-use Rattle.device.specs.declared.State.{State}
+use Rattle.kept.specs.Kept.{SoundMachine}
+use Rattle.kept.proofs.Steps.{step-keeps}
 use Rattle.refusals.specs.Refusals.{passed, checkedAs}
 use Rattle.refusals.specs.declared.Refusal.{Refusal}
 use Rattle.refusals.specs.declared.Refusal.the-variants.{Done, NoRoom}
-use Rattle.walk.specs.Turns.{takes}
 use Rattle.walk.specs.declared.Answer.{Answer}
+use Rattle.walk.proofs.Turns.{over-none}
 use Rattle.model.specs.Runs.{End, shiftsIn, fitting, bytesOut, did, ranOf, runOf, seen, shown}
 use Rattle.model.proofs.Single.{run-ran}
 use Rattle.model.proofs.Rooms.{fitting-all, run-parts, out-parts, shifts-append}
-use Rattle.exchange.specs.Exchange.{shiftsOf, transferOf, unlogged, fed, heard, Exchanged}
+use Rattle.exchange.specs.Exchange.{shiftsOf, transferOf, unlogged, fed, heard}
 
 -- ---- the records
 
@@ -40,15 +43,24 @@ unfolding shiftsOf levelsSound
 levels-shifts [] es h = h
 levels-shifts (b ∷ di) es h = levels-shifts di es h
 
-levels-alone : (di : List ℕ) → T (levelsSound (shiftsOf di))
+pub levels-alone : (di : List ℕ) → T (levelsSound (shiftsOf di))
 unfolding shiftsOf levelsSound
 levels-alone [] = tt
 levels-alone (b ∷ di) = levels-alone di
 
-shifts-many : (di : List ℕ) → shiftsIn (shiftsOf di) ≡ length di
+pub levels-transfer : (di : List ℕ) → T (levelsSound (transferOf di))
+unfolding levelsSound
+levels-transfer di = levels-shifts di (Deselect ∷ []) tt
+
+-- a shift for each byte
+pub shifts-many : (di : List ℕ) → shiftsIn (shiftsOf di) ≡ length di
 unfolding shiftsOf shiftsIn
 shifts-many [] = refl
 shifts-many (b ∷ di) = rw (shifts-many di) (omega arith)
+
+pub transfer-shifts : (di : List ℕ) → shiftsIn (transferOf di) ≡ length di
+unfolding shiftsIn
+transfer-shifts di = rw (shifts-append (shiftsOf di) (Deselect ∷ []), shifts-many di) (omega arith)
 
 length-shifts : (di : List ℕ) → length (shiftsOf di) ≡ length di
 unfolding shiftsOf
@@ -63,6 +75,13 @@ fitting-short zero (b ∷ di) es h = refl
 fitting-short (suc room) (b ∷ di) es h =
     let e : suc room - 1 ≡ room = omega arith in
     rw (le-ltb (suc room) 1 (omega arith), e) (ap {B = List Record} (λ x. Shift b ∷ x) (fitting-short room di es (omega (arith, h))))
+
+-- and behind a select the same
+pub transfer-fitting : (room : ℕ) (di : List ℕ) → room < length di → fitting room (transferOf di) ≡ Select ∷ shiftsOf (take room di)
+unfolding fitting
+transfer-fitting room di h =
+    let z : room - 0 ≡ room = omega arith in
+    rw (le-ltb room 0 (omega arith), z) (ap {B = List Record} (λ x. Select ∷ x) (fitting-short room di (Deselect ∷ []) h))
 
 -- ---- what they do
 
@@ -161,21 +180,15 @@ module _ (g : Geometry) (arr : Array) (m : Machine) (di out : List ℕ) where
     abbrev mₛ : Machine
     mₛ = overBus selects m
 
-    -- the shifts of a transfer
-    transfer-shifts : shiftsIn (transferOf di) ≡ length di
-    unfolding shiftsIn
-    transfer-shifts = rw (shifts-append (shiftsOf di) (Deselect ∷ []), shifts-many di) (omega arith)
-
     module _ (p : m₁ ≡ fed g (take n di) mₛ) (q : out₁ ≡ heard g (take n di) mₛ ++ drop n out) where
       pub transfer-short : n < length di → left NoRoom m₁ (n + 1) n out₁ ≡ ranOver (transferOf di)
-      unfolding step run bytesOut fitting levelsSound
+      unfolding step run bytesOut
       transfer-short h =
           let k : n ≡ length out = omega arith in
-          let z : length out - 0 ≡ length out = omega arith in
           ran-left (transferOf di) (Select ∷ shiftsOf (take n di)) NoRoom (heard g (take n di) mₛ) (n + 1) n m₁ out₁
-          (levels-shifts di (Deselect ∷ []) tt)
-          (rw (le-ltb (length out) 0 (omega arith), z, k) (ap {B = List Record} (λ x. Select ∷ x) (fitting-short (length out) di (Deselect ∷ []) (omega arith))))
-          (short (transferOf di) (omega (arith, transfer-shifts)))
+          (levels-transfer di)
+          (rw k (transfer-fitting (length out) di (omega arith)))
+          (short (transferOf di) (omega (arith, transfer-shifts di)))
           (run-fed g arr (take n di) mₛ ∙ sym p)
           (out-heard g arr (take n di) mₛ)
           (ap suc (length-shifts (take n di) ∙ some) ∙ sym (add-one n))
@@ -183,13 +196,12 @@ module _ (g : Geometry) (arr : Array) (m : Machine) (di out : List ℕ) where
           q
 
       pub transfer-whole : length di ≤ n → (m₂ : Machine) → m₂ ≡ deselects g arr m₁ → left Done m₂ (n + 2) n out₁ ≡ ranOver (transferOf di)
-      unfolding step run bytesOut fitting levelsSound
+      unfolding step run bytesOut
       transfer-whole h m₂ d =
-          let z : length out - 0 ≡ length out = omega arith in
           ran-left (transferOf di) (transferOf (take n di)) Done (heard g (take n di) mₛ) (n + 2) n m₂ out₁
-          (levels-shifts di (Deselect ∷ []) tt)
-          (fitting-all (length out) (transferOf di) (omega (arith, transfer-shifts)) ∙ ap transferOf (sym (take-all n di h)))
-          (enough (transferOf di) (omega (arith, transfer-shifts)))
+          (levels-transfer di)
+          (fitting-all (length out) (transferOf di) (omega (arith, transfer-shifts di)) ∙ ap transferOf (sym (take-all n di h)))
+          (enough (transferOf di) (omega (arith, transfer-shifts di)))
           (run-parts g arr (shiftsOf (take n di)) (Deselect ∷ []) mₛ ∙ ap (deselects g arr) (run-fed g arr (take n di) mₛ ∙ sym p) ∙ sym d)
           (out-parts g arr (shiftsOf (take n di)) (Deselect ∷ []) mₛ ∙ append-nil (bytesOut g arr mₛ (shiftsOf (take n di))) ∙ out-heard g arr (take n di) mₛ)
           (ap suc (length-append (shiftsOf (take n di)) (Deselect ∷ []) ∙ rw (length-shifts (take n di), some) (add-one n)) ∙ two)
@@ -202,17 +214,13 @@ module _ (g : Geometry) (arr : Array) (m : Machine) (di out : List ℕ) where
 -- ---- the same of what the code has: the checks passed, and so many bytes exchanged
 
 module _ (g : Geometry) (arr : Array) (m : Machine) (di out : List ℕ) (k : Refusal) (ck : k ≡ checkedAs g m) (ok : passed k ≡ true)
-    (n : ℕ) (e : n ≡ min (length di) (length out)) (s₁ : State) (cache₁ out₁ : List ℕ) where
+    (n : ℕ) (e : n ≡ min (length di) (length out)) (m₁ : Machine) (out₁ : List ℕ) where
   -- the whole run
   abbrev ran : List Record → End
   ran es = unlogged (shown (runOf g arr (length out) (written es) m) out)
 
   as-run : (es : List Record) (x : End) → x ≡ ranOver g arr m di out es → x ≡ ran es
   as-run es x h = h ∙ ap unlogged (run-ran g arr out m (length out) (written es) k ck ok (shown (ranOf g arr (length out) (parse (written es)) m) out) refl)
-
-  -- the machine then
-  abbrev m₁ : Machine
-  m₁ = onCache s₁ cache₁ m
 
   -- the bytes that were lent
   lent : take (n - 0) di ≡ take n di
@@ -222,24 +230,64 @@ module _ (g : Geometry) (arr : Array) (m : Machine) (di out : List ℕ) (k : Ref
   lies-behind : (l : List ℕ) (x : List ℕ) → x ≡ l ++ drop (length (take n di)) out → x ≡ l ++ drop n out
   lies-behind l x h = h ∙ ap (λ (i : ℕ). l ++ drop i out) (some g arr m di out n e m₁ out₁)
 
-  module _ (x : Exchanged g (m .state) (m .store .cache) (take (n - 0) di) out s₁ cache₁ out₁) where
-    y : Exchanged g (m .state) (m .store .cache) (take n di) out s₁ cache₁ out₁
+  -- the bytes exchanged, from a machine on
+  abbrev pub Ran : Machine → Type 0
+  Ran m₀ = (m₁ ≡ fed g (take (n - 0) di) m₀) × (out₁ ≡ heard g (take (n - 0) di) m₀ ++ drop (length (take (n - 0) di)) out)
+
+  module _ (x : Ran m) where
+    y : (m₁ ≡ fed g (take n di) m) × (out₁ ≡ heard g (take n di) m ++ drop (length (take n di)) out)
     y = rw lent at x
 
     pub piece-stops : n < length di → left NoRoom m₁ n n out₁ ≡ ran (shiftsOf di)
-    piece-stops h = as-run (shiftsOf di) (left NoRoom m₁ n n out₁) (piece-short g arr m di out n e m₁ out₁ (y .after m) (lies-behind (heard g (take n di) m) out₁ (y .lies m)) h)
+    piece-stops h = as-run (shiftsOf di) (left NoRoom m₁ n n out₁) (piece-short g arr m di out n e m₁ out₁ (y .0) (lies-behind (heard g (take n di) m) out₁ (y .1)) h)
 
     pub piece-ends : length di ≤ n → left Done m₁ n n out₁ ≡ ran (shiftsOf di)
-    piece-ends h = as-run (shiftsOf di) (left Done m₁ n n out₁) (piece-whole g arr m di out n e m₁ out₁ (y .after m) (lies-behind (heard g (take n di) m) out₁ (y .lies m)) h)
+    piece-ends h = as-run (shiftsOf di) (left Done m₁ n n out₁) (piece-whole g arr m di out n e m₁ out₁ (y .0) (lies-behind (heard g (take n di) m) out₁ (y .1)) h)
 
-  module _ (x : Exchanged g (busIn (selects (m .state .bus)) (m .state)) (m .store .cache) (take (n - 0) di) out s₁ cache₁ out₁) where
-    z : Exchanged g (busIn (selects (m .state .bus)) (m .state)) (m .store .cache) (take n di) out s₁ cache₁ out₁
+  module _ (x : Ran (step g arr m Select)) where
+    z : (m₁ ≡ fed g (take n di) (overBus selects m)) × (out₁ ≡ heard g (take n di) (overBus selects m) ++ drop (length (take n di)) out)
+    unfolding step
     z = rw lent at x
 
     pub transfer-stops : n < length di → left NoRoom m₁ (n + 1) n out₁ ≡ ran (transferOf di)
-    transfer-stops h = as-run (transferOf di) (left NoRoom m₁ (n + 1) n out₁) (transfer-short g arr m di out n e m₁ out₁ (z .after m) (lies-behind (heard g (take n di) (overBus selects m)) out₁ (z .lies m)) h)
+    transfer-stops h = as-run (transferOf di) (left NoRoom m₁ (n + 1) n out₁) (transfer-short g arr m di out n e m₁ out₁ (z .0) (lies-behind (heard g (take n di) (overBus selects m)) out₁ (z .1)) h)
 
-    pub transfer-ends : length di ≤ n → (s₂ : State) (counts₂ : List ℕ) → onCounts s₂ counts₂ m₁ ≡ deselects g arr m₁ → left Done (onCounts s₂ counts₂ m₁) (n + 2) n out₁ ≡ ran (transferOf di)
-    transfer-ends h s₂ counts₂ d =
-        as-run (transferOf di) (left Done (onCounts s₂ counts₂ m₁) (n + 2) n out₁)
-        (transfer-whole g arr m di out n e m₁ out₁ (z .after m) (lies-behind (heard g (take n di) (overBus selects m)) out₁ (z .lies m)) h (onCounts s₂ counts₂ m₁) d)
+    -- and then chip select rises, which leaves the output alone
+    pub transfer-ends : length di ≤ n → (m₂ : Machine) (out₂ : List ℕ) → m₂ ≡ step g arr m₁ Deselect → out₂ ≡ over out₁ n [] → left Done m₂ (n + 2) n out₂ ≡ ran (transferOf di)
+    unfolding step
+    transfer-ends h m₂ out₂ d o =
+        rw (o ∙ sym (over-none out₁ n))
+        (as-run (transferOf di) (left Done m₂ (n + 2) n out₁)
+        (transfer-whole g arr m di out n e m₁ out₁ (z .0) (lies-behind (heard g (take n di) (overBus selects m)) out₁ (z .1)) h m₂ d))
+
+-- a select leaves the output alone too, and a machine sound
+pub selected : (g : Geometry) → Sound g → (m m₁ : Machine) (out out₁ : List ℕ) → m₁ ≡ step g (stepping g) m Select → out₁ ≡ over out 0 [] → SoundMachine g m
+    → SoundMachine g m₁ × (out₁ ≡ out)
+selected g s m m₁ out out₁ x y h = (rw x (step-keeps g s m Select tt h), y ∙ sym (over-none out 0))
+
+-- and so does feeding
+fed-keeps : (g : Geometry) → Sound g → (di : List ℕ) → Bytes di → (m : Machine) → SoundMachine g m → SoundMachine g (fed g di m)
+unfolding fed step
+fed-keeps g s [] b m h = h
+fed-keeps g s (x ∷ di) b m h = fed-keeps g s di (λ i. b (suc i)) (shifts g x m) (step-keeps g s m (Shift x) (b 0) h)
+
+take-bytes : (n : ℕ) (l : List ℕ) → Bytes l → Bytes (take n l)
+take-bytes zero l h i = omega arith
+take-bytes (suc n) [] h i = h i
+take-bytes (suc n) (x ∷ l) h zero = h 0
+take-bytes (suc n) (x ∷ l) h (suc i) = take-bytes n l (λ j. h (suc j)) i
+
+pub fed-sound : (g : Geometry) → Sound g → (n : ℕ) (di : List ℕ) → Bytes di → (m m₁ : Machine) → SoundMachine g m → m₁ ≡ fed g (take n di) m → SoundMachine g m₁
+fed-sound g s n di b m m₁ h x = rw x (fed-keeps g s (take n di) (take-bytes n di b) m h)
+
+-- bytes exchanged behind a select: said from before it
+pub from-select : (g : Geometry) (arr : Array) (m : Machine) (di out : List ℕ) (m₁ : Machine) (out₁ : List ℕ) (mₛ : Machine) (outₛ : List ℕ) → mₛ ≡ step g arr m Select → outₛ ≡ over out 0 []
+    → (m₁ ≡ fed g di mₛ) × (out₁ ≡ heard g di mₛ ++ drop (length di) outₛ) → (m₁ ≡ fed g di (step g arr m Select)) × (out₁ ≡ heard g di (step g arr m Select) ++ drop (length di) out)
+from-select g arr m di out m₁ out₁ mₛ outₛ x y r = (
+  r .0 ∙ ap (fed g di) x,
+  r .1 ∙ ap₂ (λ (n : Machine) (l : List ℕ). heard g di n ++ drop (length di) l) x (y ∙ sym (over-none out 0)),
+)
+
+-- and there is room for them
+pub room-left : (n : ℕ) (di out outₛ : List ℕ) → n ≡ min (length di) (length out) → outₛ ≡ over out 0 [] → length (take (n - 0) di) ≤ length outₛ
+room-left n di out outₛ e y = rw (y ∙ sym (over-none out 0)) (omega (arith, length-take-le (n - 0) di (omega arith)))

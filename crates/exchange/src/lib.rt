@@ -1,16 +1,20 @@
 // Bytes exchanged on the bus, with no log in between: a whole transfer, or a piece of one. Each is the run of its records.
 // Document 01, "Logs" and "Instructions".
 ghost use mathlib.Core.Bool.{true};
+ghost use mathlib.Core.List.{_++_};
 ghost use mathlib.Core.Path.{_≡_};
 ghost use Prim.Native.Nat.{_≤_, min};
-ghost use lib.ListN.{length};
+ghost use lib.ListN.{length, drop};
+ghost use Rattle.part.specs.Part.{Sound};
 ghost use Rattle.buslog.specs.Log.{written};
 ghost use Rattle.transfer.specs.Transfer.{is};
 ghost use Rattle.device.specs.Machine.{machine};
 ghost use Rattle.device.specs.Work.{stepping};
+ghost use Rattle.kept.specs.Kept.{SoundMachine};
 ghost use Rattle.model.specs.Runs.{runOf, seen, shown};
 ghost use Rattle.stream.specs.Streams.{Past, loading, streams};
-ghost use Rattle.exchange.specs.Exchange.{shiftsOf, transferOf, unlogged, Exchanged};
+ghost use Rattle.exchange.specs.Exchange.{shiftsOf, transferOf, unlogged, fed, heard, Exchanged};
+use buslog::Record;
 use device::State;
 use part::Geometry;
 use refusals::Refusal;
@@ -68,9 +72,19 @@ fn streamed(g: Geometry, s: State, di: &[u8], cache: &mut [u8], out: &mut [u8]) 
 }
 
 // Bytes in on DI and out on DO: one after another, and once they are a stream all that are left.
-fn exchanged(g: Geometry, state: State, di: &[u8], cache: &mut [u8], out: &mut [u8]) -> State
-    requires { ⌜ length (now di) ≤ length (now out) ⌝ }
-    ensures { λ r. ⌜ Exchanged g state (now (cache .entry)) (now (di .entry)) (now (out .entry)) r (now (cache .exit)) (now (out .exit)) ⌝ }
+fn exchanged(
+    g: Geometry,
+    state: State,
+    di: &[u8],
+    cells: &mut [u8],
+    cache: &mut [u8],
+    counts: &mut [u8],
+    out: &mut [u8],
+) -> State
+    requires { ⌜ (Sound g) × (SoundMachine g (machine state (now cells) (now cache) (now counts))) × (length (now di) ≤ length (now out)) ⌝ }
+    ensures { λ r.
+        ⌜ (machine r (now (cells .exit)) (now (cache .exit)) (now (counts .exit)) ≡ fed g (now (di .entry)) (machine state (now (cells .entry)) (now (cache .entry)) (now (counts .entry))))
+        × (now (out .exit) ≡ heard g (now (di .entry)) (machine state (now (cells .entry)) (now (cache .entry)) (now (counts .entry))) ++ drop (length (now (di .entry))) (now (out .entry))) ⌝ }
 {
     let mut s = state;
     let mut i = 0;
@@ -78,10 +92,7 @@ fn exchanged(g: Geometry, state: State, di: &[u8], cache: &mut [u8], out: &mut [
         if stream::streams(s.bus) {
             return streamed(g, s, &di[i..], cache, &mut out[i..]);
         }
-        let h = s.shift(g, di[i], cache);
-        let t = h.state;
-        out[i] = h.out;
-        s = t;
+        s = walk::turn(g, s, Record::Shift(di[i]), i, cells, cache, counts, out);
         i += 1;
     }
     s
@@ -106,7 +117,7 @@ pub fn shifts(
         return Walk::start(state).so_far(k);
     }
     let n = least(di.len(), out.len());
-    let s = exchanged(g, state, &di[0..n], cache, out);
+    let s = exchanged(g, state, &di[0..n], cells, cache, counts, out);
     if n < di.len() {
         return Answer {
             refusal: Refusal::NoRoom,
@@ -145,7 +156,8 @@ pub fn transfer(
         return Walk::start(state).so_far(k);
     }
     let n = least(di.len(), out.len());
-    let s = exchanged(g, state.select(), &di[0..n], cache, out);
+    let on = walk::turn(g, state, Record::Select, 0, cells, cache, counts, out);
+    let s = exchanged(g, on, &di[0..n], cells, cache, counts, out);
     if n < di.len() {
         return Answer {
             refusal: Refusal::NoRoom,
@@ -155,7 +167,7 @@ pub fn transfer(
             written: n,
         };
     }
-    let t = s.deselect(g, counts);
+    let t = walk::turn(g, s, Record::Deselect, n, cells, cache, counts, out);
     Answer {
         refusal: Refusal::Done,
         state: t,

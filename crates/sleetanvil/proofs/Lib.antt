@@ -1,3 +1,4 @@
 pub mod Refused
 pub mod Quiet
+pub mod Besides
 pub mod OneAnswer

@@ -8,6 +8,9 @@ use Rattle.face.specs.Records.{CPut}
 use Rattle.face.specs.Text.{CLaid}
 use Rattle.face.specs.declared.CJudged.{CJudged}
 use Rattle.sleetanvil.specs.Runs.{CEnd, CQuiet, CJudgement}
+use Rattle.sleetanvil.specs.Beside.{CBlank}
+use Rattle.sleetanvil.proofs.sleet_version.Reads as sleet-version-reads
+use Rattle.sleetanvil.proofs.sleet_version.Kinds as sleet-version-kinds
 use Rattle.sleetanvil.proofs.sleet_fm25s005bi3.Reads as sleet-fm25s005bi3-reads
 use Rattle.sleetanvil.proofs.sleet_fm25s005bi3.Kinds as sleet-fm25s005bi3-kinds
 use Rattle.sleetanvil.proofs.sleet_bench.Reads as sleet-bench-reads
@@ -24,10 +27,22 @@ use Rattle.sleetanvil.proofs.sleet_power_up.Reads as sleet-power-up-rea
 use Rattle.sleetanvil.proofs.sleet_power_up.Kinds as sleet-power-up-kinds
 use Rattle.sleetanvil.proofs.sleet_state_sound.Reads as sleet-state-sound-reads
 use Rattle.sleetanvil.proofs.sleet_state_sound.Kinds as sleet-state-sound-kinds
+use Rattle.sleetanvil.proofs.sleet_operation_length.Reads as sleet-operation-length-reads
+use Rattle.sleetanvil.proofs.sleet_operation_length.Kinds as sleet-operation-length-kinds
+use Rattle.sleetanvil.proofs.sleet_units_left.Reads as sleet-units-left-reads
+use Rattle.sleetanvil.proofs.sleet_units_left.Kinds as sleet-units-left-kinds
+use Rattle.sleetanvil.proofs.sleet_peek.Reads as sleet-peek-reads
+use Rattle.sleetanvil.proofs.sleet_peek.Kinds as sleet-peek-kinds
+use Rattle.sleetanvil.proofs.sleet_blank.Reads as sleet-blank-reads
+use Rattle.sleetanvil.proofs.sleet_blank.Kinds as sleet-blank-kinds
 use Rattle.sleetanvil.proofs.sleet_run.Reads as sleet-run-reads
 use Rattle.sleetanvil.proofs.sleet_run.Kinds as sleet-run-kinds
 use Rattle.sleetanvil.proofs.sleet_judge.Reads as sleet-judge-reads
 use Rattle.sleetanvil.proofs.sleet_judge.Kinds as sleet-judge-kinds
+use Rattle.sleetanvil.proofs.sleet_transfer.Reads as sleet-transfer-reads
+use Rattle.sleetanvil.proofs.sleet_transfer.Kinds as sleet-transfer-kinds
+use Rattle.sleetanvil.proofs.sleet_shifts.Reads as sleet-shifts-reads
+use Rattle.sleetanvil.proofs.sleet_shifts.Kinds as sleet-shifts-kinds
 use Rattle.sleetanvil.proofs.sleet_shift.Reads as sleet-shift-reads
 use Rattle.sleetanvil.proofs.sleet_shift.Kinds as sleet-shift-kinds
 use Rattle.sleetanvil.proofs.sleet_select.Reads as sleet-select-reads
@@ -64,6 +79,9 @@ pub record Lent : Type 0 where
 abbrev lent : List ℕ → List ℕ → List ℕ → List ℕ → Lent
 lent cells cache counts out = record { memory = memory cells cache counts; out = out }
 
+pub sleet-version-one : OneAnswer 0 sleet-version-kinds.ps sleet-version-kinds.r sleet-version-reads.Post
+sleet-version-one κs a x y s t p q = p ∙ sym q
+
 pub sleet-fm25s005bi3-one : OneAnswer 0 sleet-fm25s005bi3-kinds.ps sleet-fm25s005bi3-kinds.r sleet-fm25s005bi3-reads.Post
 sleet-fm25s005bi3-one κs a x y s t p q = p ∙ sym q
 
@@ -88,6 +106,18 @@ sleet-power-up-one κs a x y s t p q = p ∙ sym q
 pub sleet-state-sound-one : OneAnswer 0 sleet-state-sound-kinds.ps sleet-state-sound-kinds.r sleet-state-sound-reads.Post
 sleet-state-sound-one κs a x y s t p q = p ∙ sym q
 
+pub sleet-operation-length-one : OneAnswer 0 sleet-operation-length-kinds.ps sleet-operation-length-kinds.r sleet-operation-length-reads.Post
+sleet-operation-length-one κs a x y s t p q = p ∙ sym q
+
+pub sleet-units-left-one : OneAnswer 0 sleet-units-left-kinds.ps sleet-units-left-kinds.r sleet-units-left-reads.Post
+sleet-units-left-one κs a x y s t p q = p ∙ sym q
+
+pub sleet-peek-one : OneAnswer 1 sleet-peek-kinds.ps sleet-peek-kinds.r sleet-peek-reads.Post
+sleet-peek-one κs a x y s t p q = p ∙ sym q
+
+pub sleet-blank-one : OneEnd 3 sleet-blank-kinds.ps sleet-blank-kinds.r Memory (λ κs s. memory (now (s .1 .0)) (now (s .1 .1 .0)) (now (s .1 .1 .1 .0))) sleet-blank-reads.Post
+sleet-blank-one κs a x y s t p q = (ap (λ (b : CBlank). b .refusal) (p ∙ sym q), ap (λ (b : CBlank). memory (b .cells) (b .cache) (b .counts)) (p ∙ sym q))
+
 pub sleet-run-one : OneEnd 5 sleet-run-kinds.ps sleet-run-kinds.r Lent (λ κs s. lent (now (s .1 .1 .1 .0)) (now (s .1 .1 .1 .1 .0)) (now (s .1 .1 .1 .1 .1 .0)) (now (s .1 .1 .1 .1 .1 .1 .0))) sleet-run-reads.Post
 sleet-run-one κs a x y s t p q = (ap (λ (e : CEnd). e .answer) (p ∙ sym q), ap (λ (e : CEnd). lent (e .cells) (e .cache) (e .counts) (e .out)) (p ∙ sym q))
 
@@ -96,6 +126,12 @@ judgedBy j = record { answer = j .end .answer; orderly = j .orderly }
 
 pub sleet-judge-one : OneEnd 5 sleet-judge-kinds.ps sleet-judge-kinds.r Lent (λ κs s. lent (now (s .1 .1 .1 .0)) (now (s .1 .1 .1 .1 .0)) (now (s .1 .1 .1 .1 .1 .0)) (now (s .1 .1 .1 .1 .1 .1 .0))) sleet-judge-reads.Post
 sleet-judge-one κs a x y s t p q = (ap judgedBy (p ∙ sym q), ap (λ (j : CJudgement). lent (j .end .cells) (j .end .cache) (j .end .counts) (j .end .out)) (p ∙ sym q))
+
+pub sleet-transfer-one : OneEnd 5 sleet-transfer-kinds.ps sleet-transfer-kinds.r Lent (λ κs s. lent (now (s .1 .1 .1 .0)) (now (s .1 .1 .1 .1 .0)) (now (s .1 .1 .1 .1 .1 .0)) (now (s .1 .1 .1 .1 .1 .1 .0))) sleet-transfer-reads.Post
+sleet-transfer-one κs a x y s t p q = (ap (λ (e : CEnd). e .answer) (p ∙ sym q), ap (λ (e : CEnd). lent (e .cells) (e .cache) (e .counts) (e .out)) (p ∙ sym q))
+
+pub sleet-shifts-one : OneEnd 5 sleet-shifts-kinds.ps sleet-shifts-kinds.r Lent (λ κs s. lent (now (s .1 .1 .1 .0)) (now (s .1 .1 .1 .1 .0)) (now (s .1 .1 .1 .1 .1 .0)) (now (s .1 .1 .1 .1 .1 .1 .0))) sleet-shifts-reads.Post
+sleet-shifts-one κs a x y s t p q = (ap (λ (e : CEnd). e .answer) (p ∙ sym q), ap (λ (e : CEnd). lent (e .cells) (e .cache) (e .counts) (e .out)) (p ∙ sym q))
 
 pub sleet-shift-one : OneEnd 4 sleet-shift-kinds.ps sleet-shift-kinds.r Lent (λ κs s. lent (now (s .1 .1 .1 .0)) (now (s .1 .1 .1 .1 .0)) (now (s .1 .1 .1 .1 .1 .0)) (now (s .1 .1 .1 .1 .1 .1 .0))) sleet-shift-reads.Post
 sleet-shift-one κs a x y s t p q = (ap (λ (e : CEnd). e .answer) (p ∙ sym q), ap (λ (e : CEnd). lent (e .cells) (e .cache) (e .counts) (e .out)) (p ∙ sym q))

@@ -18,6 +18,8 @@ use Rattle.stream.specs.Streams.{ShiftAt, byteIn, Shifted, none, more, F
 use Rattle.stream.specs.declared.Stream.{Stream}
 use Rattle.stream.proofs.streams.Reads as streams-reads
 use Rattle.stream.proofs.streams.Kinds as streams-kinds
+use Rattle.stream.proofs.at_column.Reads as at-column-reads
+use Rattle.stream.proofs.at_column.Kinds as at-column-kinds
 use Rattle.stream.proofs.shifts.Reads as shifts-reads
 use Rattle.stream.proofs.shifts.Kinds as shifts-kinds
 
@@ -99,3 +101,6 @@ shifts-one κs a x y s t p q = (one-stream _ _ _ _ _ _ _ p q, one-memory _ _ _ _
 
 pub streams-one : OneAnswer 0 streams-kinds.ps streams-kinds.r streams-reads.Post
 streams-one κs a x y s t p q = p ∙ sym q
+
+pub at-column-one : OneAnswer 0 at-column-kinds.ps at-column-kinds.r at-column-reads.Post
+at-column-one κs a x y s t p q = p ∙ sym q

@@ -1,32 +1,24 @@
 /*
- * The C interface from C, and from C++ (the file is compiled as both): document 01's log on the bench part, refusals, single events, records of a
- * log, and texts. Each check that fails is printed; the program's status is 0 if there is none.
+ * The C interface from C, and from C++ (the file is compiled as both): document 01's log on the bench part, refusals, transfers, single
+ * events, questions, blank memory, records of a log, and texts. Each check that fails is printed; the program's status is 0 if there is
+ * none.
  */
-#include <assert.h>
-#include <stdio.h>
 #include <string.h>
 
+#include "check.h"
 #include "sleetanvil.h"
 
-static_assert(sizeof(sleet_geometry) == 20, "sleet_geometry");
-static_assert(sizeof(sleet_state) == 32, "sleet_state");
-static_assert(sizeof(sleet_answer) == 64, "sleet_answer");
-static_assert(sizeof(sleet_judged) == 72, "sleet_judged");
-static_assert(sizeof(sleet_record) == 4, "sleet_record");
-static_assert(sizeof(sleet_found) == 16, "sleet_found");
-static_assert(sizeof(sleet_wrote) == 16, "sleet_wrote");
+/* A type has a size, or the file does not compile: static_assert for C99 too. */
+#define SIZE_IS(type, size) typedef char type##_has_its_size[sizeof(type) == (size) ? 1 : -1]
 
-static int failures = 0;
-
-static void check_at(int line, const char *what, bool holds)
-{
-    if (!holds) {
-        fprintf(stderr, "line %d: not so: %s\n", line, what);
-        failures++;
-    }
-}
-
-#define CHECK(condition) check_at(__LINE__, #condition, condition)
+SIZE_IS(sleet_geometry, 20);
+SIZE_IS(sleet_state, 32);
+SIZE_IS(sleet_answer, 64);
+SIZE_IS(sleet_judged, 72);
+SIZE_IS(sleet_peeked, 2);
+SIZE_IS(sleet_record, 4);
+SIZE_IS(sleet_found, 16);
+SIZE_IS(sleet_wrote, 16);
 
 /* The bench part's memory. */
 static uint8_t cells[640];
@@ -34,6 +26,9 @@ static uint8_t cache[20];
 static uint8_t counts[32];
 static uint8_t out[16];
 
+#define MEMORY cells, sizeof cells, cache, sizeof cache, counts, sizeof counts
+
+/* The memory of a device that was never used, and output that nobody wrote to. */
 static void erase_all(void)
 {
     memset(cells, 0xFF, sizeof cells);
@@ -42,19 +37,13 @@ static void erase_all(void)
     memset(out, 0xEE, sizeof out);
 }
 
+/* Runs a log on the bench part. Returns the answer. */
 static sleet_answer run(sleet_state state, const uint8_t *log, size_t log_length, size_t room)
 {
-    return sleet_run(sleet_bench(), state, log, log_length, cells, sizeof cells, cache, sizeof cache, counts, sizeof counts, out, room);
+    return sleet_run(sleet_bench(), state, log, log_length, MEMORY, out, room);
 }
 
-/* Field by field: the bytes between the fields are nobody's. */
-static bool same_state(sleet_state a, sleet_state b)
-{
-    return a.a0 == b.a0 && a.b0 == b.b0 && a.c0 == b.c0 && a.d0 == b.d0 && a.wp == b.wp && a.selected == b.selected && a.count == b.count &&
-           a.first == b.first && a.second == b.second && a.third == b.third && a.job == b.job && a.instruction == b.instruction &&
-           a.column == b.column && a.row == b.row && a.units == b.units;
-}
-
+/* Returns whether an answer has these numbers. */
 static bool refused(sleet_answer answer, uint8_t refusal, size_t records, size_t used, size_t written)
 {
     return answer.refusal == refusal && answer.records == records && answer.used == used && answer.written == written;
@@ -66,8 +55,8 @@ static void check_parts(void)
     sleet_geometry real = sleet_fm25s005bi3();
     sleet_geometry unsound = bench;
 
-    CHECK(bench.main == 16 && bench.spare == 4 && bench.pages == 4 && bench.blocks == 8 && bench.id0 == 0x5A && bench.id1 == 0x01);
-    CHECK(real.main == 2048 && real.spare == 128 && real.pages == 64 && real.blocks == 512 && real.id0 == 0xA1 && real.id1 == 0xD5);
+    CHECK(bench.data == 16 && bench.spare == 4 && bench.pages == 4 && bench.blocks == 8 && bench.id0 == 0x5A && bench.id1 == 0x01);
+    CHECK(real.data == 2048 && real.spare == 128 && real.pages == 64 && real.blocks == 512 && real.id0 == 0xA1 && real.id1 == 0xD5);
     CHECK(sleet_geometry_sound(bench) && sleet_geometry_sound(real));
     CHECK(sleet_cells_length(bench) == 640 && sleet_cache_length(bench) == 20 && sleet_counts_length(bench) == 32);
     CHECK(sleet_cells_length(real) == 71303168 && sleet_cache_length(real) == 2176 && sleet_counts_length(real) == 32768);
@@ -115,12 +104,10 @@ static void check_judgement(void)
     sleet_judged judged;
 
     erase_all();
-    judged = sleet_judge(sleet_bench(), sleet_power_up(), early, sizeof early, cells, sizeof cells, cache, sizeof cache, counts, sizeof counts, out,
-                         sizeof out);
+    judged = sleet_judge(sleet_bench(), sleet_power_up(), early, sizeof early, MEMORY, out, sizeof out);
     CHECK(!judged.orderly && judged.answer.refusal == SLEET_DONE && judged.answer.records == 4 && judged.answer.state.c0 == 0x00);
     erase_all();
-    judged = sleet_judge(sleet_bench(), sleet_power_up(), behind, sizeof behind, cells, sizeof cells, cache, sizeof cache, counts, sizeof counts, out,
-                         sizeof out);
+    judged = sleet_judge(sleet_bench(), sleet_power_up(), behind, sizeof behind, MEMORY, out, sizeof out);
     CHECK(judged.orderly && judged.answer.refusal == SLEET_DONE && judged.answer.records == 4 && judged.answer.state.c0 == 0x02);
 }
 
@@ -143,14 +130,14 @@ static void check_refusals(void)
     answer = run(start, shifts, sizeof shifts, 1);
     CHECK(refused(answer, SLEET_NO_ROOM, 2, 3, 1) && answer.state.count == 1 && out[0] == 0xFF && out[1] == 0xEE);
 
-    answer = sleet_run(part, start, shifts, sizeof shifts, cells, sizeof cells - 1, cache, sizeof cache, counts, sizeof counts, out, sizeof out);
+    answer = sleet_run(part, start, shifts, sizeof shifts, cells, 639, cache, sizeof cache, counts, sizeof counts, out, sizeof out);
     CHECK(refused(answer, SLEET_BAD_CELLS, 0, 0, 0) && same_state(answer.state, start));
     answer = sleet_run(part, start, shifts, sizeof shifts, cells, sizeof cells, cache, 0, counts, sizeof counts, out, sizeof out);
     CHECK(refused(answer, SLEET_BAD_CACHE, 0, 0, 0) && same_state(answer.state, start));
     answer = sleet_run(part, start, shifts, sizeof shifts, cells, sizeof cells, cache, sizeof cache, counts, 31, out, sizeof out);
     CHECK(refused(answer, SLEET_BAD_COUNTS, 0, 0, 0) && same_state(answer.state, start));
-    part.main = 0;
-    answer = sleet_run(part, start, shifts, sizeof shifts, cells, sizeof cells, cache, sizeof cache, counts, sizeof counts, out, sizeof out);
+    part.data = 0;
+    answer = sleet_run(part, start, shifts, sizeof shifts, MEMORY, out, sizeof out);
     CHECK(refused(answer, SLEET_BAD_PART, 0, 0, 0) && same_state(answer.state, start));
 
     unsound.job = 200;
@@ -165,11 +152,11 @@ static void check_refusals(void)
     CHECK(out[0] == 0xFF && out[1] == 0xEE);
 }
 
+/* One byte in, and the byte out has to be as expected. Returns the state after it. */
 static sleet_state shift(sleet_state state, uint8_t byte, uint8_t expected)
 {
     uint8_t answered = (uint8_t)~expected;
-    sleet_answer answer =
-        sleet_shift(sleet_bench(), state, byte, cells, sizeof cells, cache, sizeof cache, counts, sizeof counts, &answered, 1);
+    sleet_answer answer = sleet_shift(sleet_bench(), state, byte, MEMORY, &answered, 1);
 
     CHECK(refused(answer, SLEET_DONE, 1, 2, 1));
     CHECK(answered == expected);
@@ -183,26 +170,200 @@ static void check_events(void)
     sleet_state state;
 
     erase_all();
-    answer = sleet_work(part, sleet_power_up(), 20, cells, sizeof cells, cache, sizeof cache, counts, sizeof counts);
+    answer = sleet_work(part, sleet_power_up(), 20, MEMORY);
     CHECK(refused(answer, SLEET_DONE, 1, 3, 0) && answer.state.c0 == 0x00);
-    answer = sleet_select(part, answer.state, cells, sizeof cells, cache, sizeof cache, counts, sizeof counts);
+    answer = sleet_select(part, answer.state, MEMORY);
     CHECK(refused(answer, SLEET_DONE, 1, 1, 0) && answer.state.selected == 1);
-    state = shift(answer.state, 0x9F, 0xFF);
-    CHECK(state.instruction == 0x9F && state.count == 1);
+    state = shift(answer.state, SLEET_CODE_READ_ID, 0xFF);
+    CHECK(state.instruction == SLEET_CODE_READ_ID && state.count == 1);
     state = shift(state, 0x00, 0xFF);
     state = shift(state, 0x00, 0x5A);
     state = shift(state, 0x00, 0x01);
     state = shift(state, 0x00, 0xFF);
-    answer = sleet_shift(part, state, 0x00, cells, sizeof cells, cache, sizeof cache, counts, sizeof counts, out, 0);
+    answer = sleet_shift(part, state, 0x00, MEMORY, out, 0);
     CHECK(refused(answer, SLEET_NO_ROOM, 0, 0, 0) && same_state(answer.state, state) && out[0] == 0xEE);
-    answer = sleet_deselect(part, state, cells, sizeof cells, cache, sizeof cache, counts, sizeof counts);
+    answer = sleet_deselect(part, state, MEMORY);
     CHECK(refused(answer, SLEET_DONE, 1, 1, 0) && answer.state.selected == 0 && answer.state.count == 0);
-    answer = sleet_level(part, answer.state, 0, cells, sizeof cells, cache, sizeof cache, counts, sizeof counts);
+    answer = sleet_level(part, answer.state, 0, MEMORY);
     CHECK(refused(answer, SLEET_DONE, 1, 2, 0) && answer.state.wp == 0);
-    answer = sleet_level(part, answer.state, 2, cells, sizeof cells, cache, sizeof cache, counts, sizeof counts);
+    answer = sleet_level(part, answer.state, 2, MEMORY);
     CHECK(refused(answer, SLEET_BAD_LEVEL, 0, 0, 0) && answer.state.wp == 0);
-    answer = sleet_power(part, answer.state, cells, sizeof cells, cache, sizeof cache, counts, sizeof counts);
+    answer = sleet_power(part, answer.state, MEMORY);
     CHECK(refused(answer, SLEET_DONE, 1, 1, 0) && answer.state.wp == 0 && answer.state.job == SLEET_READ);
+}
+
+/* A transfer on the bench part. Returns the answer. */
+static sleet_answer transfer(sleet_state state, const uint8_t *di, size_t length, size_t room)
+{
+    return sleet_transfer(sleet_bench(), state, di, length, MEMORY, out, room);
+}
+
+/* The registers by their names, at power-up; and the names of the instructions, the bits and the kinds by their numbers. */
+static void check_names(void)
+{
+    static const uint8_t addresses[4] = {SLEET_A0, SLEET_B0, SLEET_C0, SLEET_D0};
+    static const uint8_t values[4] = {SLEET_A0_BP, SLEET_B0_ECC_E, SLEET_C0_OIP, 0x40};
+    uint8_t di[3] = {SLEET_CODE_GET_FEATURE, 0, 0};
+    size_t i;
+
+    CHECK(sleet_version() == SLEET_VERSION);
+    for (i = 0; i < 4; i++) {
+        erase_all();
+        di[1] = addresses[i];
+        CHECK(refused(transfer(sleet_power_up(), di, sizeof di, sizeof out), SLEET_DONE, 5, 0, 3) && out[2] == values[i]);
+    }
+    CHECK(SLEET_CODE_WRITE_ENABLE == 0x06 && SLEET_CODE_WRITE_DISABLE == 0x04 && SLEET_CODE_GET_FEATURE == 0x0F);
+    CHECK(SLEET_CODE_SET_FEATURE == 0x1F && SLEET_CODE_READ_ID == 0x9F && SLEET_CODE_PAGE_READ == 0x13);
+    CHECK(SLEET_CODE_READ_CACHE == 0x03 && SLEET_CODE_READ_CACHE_FAST == 0x0B && SLEET_CODE_LOAD == 0x02);
+    CHECK(SLEET_CODE_LOAD_RANDOM == 0x84 && SLEET_CODE_EXECUTE == 0x10 && SLEET_CODE_BLOCK_ERASE == 0xD8 && SLEET_CODE_RESET == 0xFF);
+    CHECK(SLEET_A0_BRWD == 0x80 && SLEET_A0_BP == 0x38 && SLEET_A0_INV == 0x04 && SLEET_B0_ECC_E == 0x10 && SLEET_B0_QE == 0x01);
+    CHECK(SLEET_C0_OIP == 0x01 && SLEET_C0_WEL == 0x02 && SLEET_C0_E_FAIL == 0x04 && SLEET_C0_P_FAIL == 0x08 && SLEET_C0_ECCS == 0x70);
+    CHECK(SLEET_D0_DRIVE == 0x60 && SLEET_KIND_SELECT == 1 && SLEET_KIND_SHIFT == 2 && SLEET_KIND_DESELECT == 3);
+    CHECK(SLEET_KIND_WORK == 4 && SLEET_KIND_LEVEL == 5 && SLEET_KIND_POWER == 6);
+}
+
+/* A transfer is the run of its records; without room enough it is completed by shifts and a deselect. */
+static void check_transfers(void)
+{
+    static const uint8_t read_id[5] = {SLEET_CODE_READ_ID, 0x00, 0x00, 0x00, 0x00};
+    static const uint8_t log[12] = {0x01, 0x02, 0x9F, 0x02, 0x00, 0x02, 0x00, 0x02, 0x00, 0x02, 0x00, 0x03};
+    static const uint8_t identity[5] = {0xFF, 0xFF, 0x5A, 0x01, 0xFF};
+    sleet_geometry part = sleet_bench();
+    sleet_state start = sleet_power_up();
+    sleet_state unsound = start;
+    sleet_answer answer;
+    sleet_state end;
+
+    erase_all();
+    answer = run(start, log, sizeof log, sizeof out);
+    CHECK(refused(answer, SLEET_DONE, 7, 12, 5) && memcmp(out, identity, sizeof identity) == 0);
+    end = answer.state;
+    erase_all();
+    answer = transfer(start, read_id, sizeof read_id, sizeof out);
+    CHECK(refused(answer, SLEET_DONE, 7, 0, 5) && same_state(answer.state, end));
+    CHECK(memcmp(out, identity, sizeof identity) == 0 && out[5] == 0xEE);
+    answer = transfer(start, read_id, 0, 0);
+    CHECK(refused(answer, SLEET_DONE, 2, 0, 0) && answer.state.selected == 0);
+
+    erase_all();
+    answer = transfer(start, read_id, sizeof read_id, 2);
+    CHECK(refused(answer, SLEET_NO_ROOM, 3, 0, 2) && answer.state.selected == 1 && answer.state.count == 2 && out[2] == 0xEE);
+    answer = sleet_shifts(part, answer.state, read_id + 2, 3, MEMORY, out + 2, 1);
+    CHECK(refused(answer, SLEET_NO_ROOM, 1, 0, 1) && answer.state.selected == 1 && out[3] == 0xEE);
+    answer = sleet_shifts(part, answer.state, read_id + 3, 2, MEMORY, out + 3, 13);
+    CHECK(refused(answer, SLEET_DONE, 2, 0, 2) && answer.state.selected == 1 && out[5] == 0xEE);
+    answer = sleet_deselect(part, answer.state, MEMORY);
+    CHECK(same_state(answer.state, end) && memcmp(out, identity, sizeof identity) == 0);
+
+    /* On a selected chip the bytes continue the old transfer; on one that is not selected they do nothing. */
+    answer = sleet_select(part, start, MEMORY);
+    answer = sleet_shifts(part, answer.state, read_id, 2, MEMORY, out, sizeof out);
+    answer = transfer(answer.state, read_id, 2, sizeof out);
+    CHECK(refused(answer, SLEET_DONE, 4, 0, 2) && out[0] == 0x5A && out[1] == 0x01 && answer.state.selected == 0);
+    answer = sleet_shifts(part, start, read_id, 4, MEMORY, out, sizeof out);
+    CHECK(refused(answer, SLEET_DONE, 4, 0, 4) && same_state(answer.state, start) && out[0] == 0xFF && out[2] == 0xFF);
+
+    /* Refused as a run is. */
+    unsound.selected = 2;
+    erase_all();
+    answer = transfer(unsound, read_id, sizeof read_id, 0);
+    CHECK(refused(answer, SLEET_BAD_STATE, 0, 0, 0) && same_state(answer.state, unsound));
+    answer = sleet_transfer(part, start, read_id, 5, cells, 640, cache, 20, counts, 33, out, sizeof out);
+    CHECK(refused(answer, SLEET_BAD_COUNTS, 0, 0, 0) && same_state(answer.state, start));
+    answer = sleet_shifts(part, start, read_id, 5, cells, 640, cache, 19, counts, 32, out, sizeof out);
+    CHECK(refused(answer, SLEET_BAD_CACHE, 0, 0, 0) && same_state(answer.state, start));
+    answer = sleet_shifts(part, start, read_id, 5, cells, 641, cache, 20, counts, 32, out, sizeof out);
+    CHECK(refused(answer, SLEET_BAD_CELLS, 0, 0, 0) && same_state(answer.state, start));
+    part.spare = 4096;
+    answer = sleet_transfer(part, start, read_id, 5, MEMORY, out, sizeof out);
+    CHECK(refused(answer, SLEET_BAD_PART, 0, 0, 0) && same_state(answer.state, start) && out[0] == 0xEE);
+}
+
+/* The next byte on DO, the units of an operation and the units left, and work of more than a record can say. */
+static void check_questions(void)
+{
+    static const uint8_t di[4] = {SLEET_CODE_GET_FEATURE, SLEET_C0, 0x55, 0xAA};
+    static const uint8_t expected[4] = {0xFF, 0xFF, 0x01, 0x01};
+    sleet_geometry part = sleet_bench();
+    sleet_geometry real = sleet_fm25s005bi3();
+    sleet_geometry unsound = part;
+    sleet_state wrong = sleet_power_up();
+    sleet_peeked peeked;
+    sleet_answer answer;
+    size_t i;
+
+    unsound.pages = 0;
+    wrong.units = 20;
+    CHECK(sleet_operation_length(part, SLEET_READ) == 20 && sleet_operation_length(part, SLEET_PROGRAM) == 20);
+    CHECK(sleet_operation_length(part, SLEET_ERASE) == 80 && sleet_operation_length(real, SLEET_ERASE) == 139264);
+    CHECK(sleet_operation_length(part, SLEET_IDLE) == 0 && sleet_operation_length(part, 4) == 0);
+    CHECK(sleet_operation_length(unsound, SLEET_READ) == 0);
+
+    CHECK(sleet_units_left(part, sleet_power_up()) == 20 && sleet_units_left(real, sleet_power_up()) == 2176);
+    CHECK(sleet_units_left(part, wrong) == 0 && sleet_units_left(unsound, sleet_power_up()) == 0);
+    erase_all();
+    answer = sleet_work(part, sleet_power_up(), 7, MEMORY);
+    CHECK(sleet_units_left(part, answer.state) == 13);
+    answer = sleet_work(part, answer.state, 13, MEMORY);
+    CHECK(sleet_units_left(part, answer.state) == 0 && answer.state.job == SLEET_IDLE);
+
+    /* Numbers whose low 16 or 32 bits are 0. */
+    answer = sleet_work(part, sleet_power_up(), 0, MEMORY);
+    CHECK(refused(answer, SLEET_DONE, 1, 3, 0) && sleet_units_left(part, answer.state) == 20);
+    answer = sleet_work(part, sleet_power_up(), 0x10000, MEMORY);
+    CHECK(refused(answer, SLEET_DONE, 1, 3, 0) && sleet_units_left(part, answer.state) == 0);
+    answer = sleet_work(part, sleet_power_up(), UINT64_C(0x100000000), MEMORY);
+    CHECK(refused(answer, SLEET_DONE, 1, 3, 0) && sleet_units_left(part, answer.state) == 0);
+    answer = sleet_work(part, sleet_power_up(), UINT64_MAX, MEMORY);
+    CHECK(refused(answer, SLEET_DONE, 1, 3, 0) && sleet_units_left(part, answer.state) == 0);
+    answer = sleet_work(part, sleet_power_up(), UINT64_MAX, cells, 0, cache, 20, counts, 32);
+    CHECK(refused(answer, SLEET_BAD_CELLS, 0, 0, 0) && same_state(answer.state, sleet_power_up()));
+
+    answer = sleet_select(part, sleet_power_up(), MEMORY);
+    for (i = 0; i < sizeof di; i++) {
+        peeked = sleet_peek(part, answer.state, cache, sizeof cache);
+        CHECK(peeked.refusal == SLEET_DONE && peeked.byte == expected[i]);
+        answer = sleet_shift(part, answer.state, di[i], MEMORY, out, 1);
+        CHECK(out[0] == expected[i]);
+    }
+    peeked = sleet_peek(unsound, answer.state, cache, sizeof cache);
+    CHECK(peeked.refusal == SLEET_BAD_PART && peeked.byte == 0xFF);
+    peeked = sleet_peek(part, answer.state, cache, sizeof cache - 1);
+    CHECK(peeked.refusal == SLEET_BAD_CACHE && peeked.byte == 0xFF);
+    peeked = sleet_peek(part, wrong, cache, sizeof cache);
+    CHECK(peeked.refusal == SLEET_BAD_STATE && peeked.byte == 0xFF);
+}
+
+/* Returns whether the bench part's memory holds these three bytes throughout. */
+static bool filled(uint8_t cell, uint8_t cached, uint8_t count)
+{
+    size_t i;
+
+    for (i = 0; i < sizeof cells; i++) {
+        if (cells[i] != cell || cache[i % sizeof cache] != cached || counts[i % sizeof counts] != count) {
+            return false;
+        }
+    }
+    return true;
+}
+
+static void check_blank(void)
+{
+    static const uint8_t none[1] = {0};
+    sleet_geometry part = sleet_bench();
+    sleet_geometry unsound = part;
+
+    unsound.data = 4093;
+    memset(cells, 0x11, sizeof cells);
+    memset(cache, 0x22, sizeof cache);
+    memset(counts, 0x33, sizeof counts);
+    CHECK(sleet_blank(unsound, MEMORY) == SLEET_BAD_PART);
+    CHECK(sleet_blank(part, cells, 639, cache, 20, counts, 32) == SLEET_BAD_CELLS);
+    CHECK(sleet_blank(part, cells, 640, cache, 0, counts, 32) == SLEET_BAD_CACHE);
+    CHECK(sleet_blank(part, cells, 640, cache, 20, counts, 33) == SLEET_BAD_COUNTS);
+    CHECK(filled(0x11, 0x22, 0x33));
+    CHECK(sleet_blank(part, MEMORY) == SLEET_DONE && filled(0xFF, 0xFF, 0x00));
+    CHECK(refused(run(sleet_power_up(), none, 0, 0), SLEET_DONE, 0, 0, 0));
 }
 
 static void check_records(void)
@@ -216,9 +377,9 @@ static void check_records(void)
     sleet_wrote wrote;
 
     memset(log, 0xEE, sizeof log);
-    for (kind = 1; kind <= 6; kind++) {
+    for (kind = SLEET_KIND_SELECT; kind <= SLEET_KIND_POWER; kind++) {
         record.kind = kind;
-        record.byte = kind == 5 ? 1 : 0xA5;
+        record.byte = kind == SLEET_KIND_LEVEL ? 1 : 0xA5;
         record.units = 0x1234;
         wrote = sleet_write(record, log, sizeof log, place);
         CHECK(wrote.refusal == SLEET_DONE && wrote.place > place);
@@ -227,7 +388,7 @@ static void check_records(void)
     CHECK(place == sizeof log && memcmp(log, expected, sizeof log) == 0);
     wrote = sleet_write(record, log, sizeof log, place);
     CHECK(wrote.refusal == SLEET_NO_ROOM && wrote.place == place);
-    record.kind = 5;
+    record.kind = SLEET_KIND_LEVEL;
     record.byte = 2;
     wrote = sleet_write(record, log, sizeof log, place);
     CHECK(wrote.refusal == SLEET_BAD_LEVEL && wrote.place == place);
@@ -237,11 +398,11 @@ static void check_records(void)
     CHECK(memcmp(log, expected, sizeof log) == 0);
 
     place = 0;
-    for (kind = 1; kind <= 6; kind++) {
+    for (kind = SLEET_KIND_SELECT; kind <= SLEET_KIND_POWER; kind++) {
         found = sleet_next(log, sizeof log, place);
         CHECK(found.refusal == SLEET_DONE && found.record.kind == kind && found.place > place);
-        CHECK(found.record.byte == (kind == 2 ? 0xA5 : kind == 5 ? 1 : 0));
-        CHECK(found.record.units == (kind == 4 ? 0x1234 : 0));
+        CHECK(found.record.byte == (kind == SLEET_KIND_SHIFT ? 0xA5 : kind == SLEET_KIND_LEVEL ? 1 : 0));
+        CHECK(found.record.units == (kind == SLEET_KIND_WORK ? 0x1234 : 0));
         place = found.place;
     }
     found = sleet_next(log, sizeof log, place);
@@ -257,19 +418,19 @@ static void check_records(void)
 
 static void check_texts(void)
 {
-    uint8_t text[SLEET_TEXT];
+    char text[SLEET_TEXT];
     unsigned number;
 
     for (number = 0; number <= 255; number++) {
         size_t length;
-        memset(text, 0xEE, sizeof text);
+        memset(text, '#', sizeof text);
         length = sleet_text((uint8_t)number, text, sizeof text);
-        CHECK(length > 0 && length < sizeof text && text[length] == 0 && strlen((const char *)text) == length);
+        CHECK(length > 0 && length < sizeof text && text[length] == '\0' && strlen(text) == length);
         if (number > 9) {
-            CHECK(strcmp((const char *)text, "no such refusal") == 0);
+            CHECK(strcmp(text, "no such refusal") == 0);
         }
-        memset(text, 0xEE, sizeof text);
-        CHECK(sleet_text((uint8_t)number, text, length) == 0 && text[0] == 0xEE);
+        memset(text, '#', sizeof text);
+        CHECK(sleet_text((uint8_t)number, text, length) == 0 && text[0] == '#');
     }
 }
 
@@ -281,10 +442,11 @@ int main(void)
     check_judgement();
     check_refusals();
     check_events();
+    check_names();
+    check_transfers();
+    check_questions();
+    check_blank();
     check_records();
     check_texts();
-    if (failures == 0) {
-        puts("all as it should be");
-    }
-    return failures != 0;
+    return verdict();
 }

@@ -1,0 +1,45 @@
+-- What is promised of bytes exchanged: they are the run of their records, and a transfer that is cut off for want of room can be completed.
+use mathlib.Core.Bool.{true}
+use mathlib.Core.List.{List, [], _∷_, _++_}
+use mathlib.Core.Path.{_≡_}
+use Prim.Native.Nat.{ℕ, _≤_, _<_}
+use lib.ListN.{length, take, drop}
+use Rattle.part.specs.declared.Geometry.{Geometry}
+use Rattle.buslog.specs.Log.{written}
+use Rattle.buslog.specs.declared.Record.the-variants.{Select, Deselect}
+use Rattle.device.specs.Machine.{Machine}
+use Rattle.device.specs.Work.{Array}
+use Rattle.device.specs.Step.{step, run}
+use Rattle.refusals.specs.Refusals.{passed, checkedAs}
+use Rattle.refusals.specs.declared.Refusal.the-variants.{Done, NoRoom}
+use Rattle.model.specs.Runs.{bytesOut, did, runOf}
+use Rattle.exchange.specs.Exchange.{shiftsOf, transferOf}
+
+-- a piece with room for all its bytes: each of them is shifted, and nothing else is done
+abbrev pub Alone : Type 0
+Alone =
+    (g : Geometry) (arr : Array) (m : Machine) (room : ℕ) (di : List ℕ) → passed (checkedAs g m) ≡ true → length di ≤ room →
+    runOf g arr room (written (shiftsOf di)) m ≡ did g arr m Done (shiftsOf di)
+
+-- a transfer with room for all its bytes: it is selected, each of them is shifted, and it is deselected
+abbrev pub Whole : Type 0
+Whole =
+    (g : Geometry) (arr : Array) (m : Machine) (room : ℕ) (di : List ℕ) → passed (checkedAs g m) ≡ true → length di ≤ room →
+    runOf g arr room (written (transferOf di)) m ≡ did g arr m Done (transferOf di)
+
+-- a transfer with room for r bytes only: it is 9, r bytes are done, the chip stays selected, and the bytes left and a deselect complete it
+abbrev pub CutOff : Type 0
+CutOff =
+    (g : Geometry) (arr : Array) (m : Machine) (di : List ℕ) (r : ℕ) → passed (checkedAs g m) ≡ true → r < length di →
+    let o = runOf g arr r (written (transferOf di)) m in
+    (o ≡ did g arr m NoRoom (Select ∷ shiftsOf (take r di)))
+    × (length (o .output) ≡ r)
+    × (o .machine .state .bus .transfer .selected ≡ true)
+    × (run g arr m (transferOf di) ≡ step g arr (run g arr (o .machine) (shiftsOf (drop r di))) Deselect)
+    × (bytesOut g arr m (transferOf di) ≡ o .output ++ bytesOut g arr (o .machine) (shiftsOf (drop r di)))
+
+-- on a chip that is selected already, the select of a transfer changes nothing: its bytes go on with the transfer that has begun
+abbrev pub GoesOn : Type 0
+GoesOn =
+    (g : Geometry) (arr : Array) (m : Machine) (di : List ℕ) → m .state .bus .transfer .selected ≡ true →
+    run g arr m (transferOf di) ≡ run g arr m (shiftsOf di ++ (Deselect ∷ []))

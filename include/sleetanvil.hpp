@@ -1,0 +1,313 @@
+/*
+ * A device for C++11 and later: part, state and memory in one value.
+ *
+ *     sleetanvil::device flash(sleet_bench());
+ *     const uint8_t di[] = {SLEET_CODE_READ_ID, 0, 0, 0};
+ *     uint8_t out[sizeof di];
+ *     flash.transfer(di, sizeof di, out, sizeof out); // out is FFh FFh 5Ah 01h
+ *
+ * Who owns what. A device owns its cells, cache register and page counts, and frees them when it ends. It is a value: a copy is a device of
+ * its own, and a move takes the memory along. Memory is asked for when a device is made or copied, and then alone; only that can throw
+ * (std::bad_alloc). All calls on the bus are noexcept. `di`, `log` and `out` are lent for the length of a call and may not overlap; a null
+ * pointer stands for a buffer of length 0, whatever length is given with it, so that an empty vector or span may be handed over.
+ *
+ * How refusals show. As in sleetanvil_device.h, over which the class is written: a call on the bus returns the refusal number, 0 where all
+ * was done; `shift` returns the byte on DO, FFh where it is refused; the rest of the answer stands in the device until the next call on the
+ * bus (`refusal`, `records`, `used`, `written`, `orderly`).
+ *
+ * A part that is not sound. Making a device of it does not throw: the device is there, without memory, and every call on it is refused with
+ * 1. In the same way memory of a wrong length is refused with 2 to 4 and an unsound state with 5. `refusal` says so right after the device
+ * was made, `check` and the test `if (flash)` at any time. On a device that `check` finds good, select, shift, deselect, work and power are
+ * never refused, level only with 8, transfer and shifts only with 9, run and judge only with 6 to 9. A device that was moved from has no
+ * memory left: its calls are refused until it is given a new value.
+ */
+#ifndef SLEETANVIL_HPP
+#define SLEETANVIL_HPP
+
+#include <cstddef>
+#include <utility>
+#include <vector>
+
+#if __cplusplus > 201703L && defined(__has_include)
+#if __has_include(<span>)
+#include <span>
+#endif
+#endif
+
+#include "sleetanvil_device.h"
+
+namespace sleetanvil {
+
+class device {
+public:
+    /* ---- making a device ---- */
+
+    /* A device of a part that was never used, at power-up: cells and cache register FFh, page counts 0. */
+    explicit device(sleet_geometry part)
+        : device_(), cells_(sleet_cells_length(part)), cache_(sleet_cache_length(part)), counts_(sleet_counts_length(part))
+    {
+        sleet_device_init(&device_, part, cells_.data(), cells_.size(), cache_.data(), cache_.size(), counts_.data(), counts_.size());
+    }
+
+    /* A device at power-up whose cells and page counts outlived the loss of power; the cache register is FFh. */
+    device(sleet_geometry part, std::vector<uint8_t> cells, std::vector<uint8_t> counts)
+        : device(part, sleet_power_up(), std::move(cells), std::vector<uint8_t>(sleet_cache_length(part), 0xFF), std::move(counts))
+    {
+    }
+
+    /* A device in any state, with its memory as it is. */
+    device(sleet_geometry part, sleet_state state, std::vector<uint8_t> cells, std::vector<uint8_t> cache,
+           std::vector<uint8_t> counts) noexcept
+        : device_(), cells_(std::move(cells)), cache_(std::move(cache)), counts_(std::move(counts))
+    {
+        sleet_device_open(&device_, part, state, cells_.data(), cells_.size(), cache_.data(), cache_.size(), counts_.data(),
+                          counts_.size());
+    }
+
+    /* ---- one event at a time ---- */
+
+    /* Chip select falls. Returns the refusal number. */
+    uint8_t select() noexcept
+    {
+        return sleet_device_select(handle());
+    }
+
+    /* One byte in on DI. Returns the byte on DO; FFh where it is refused. */
+    uint8_t shift(uint8_t byte) noexcept
+    {
+        return sleet_device_shift(handle(), byte);
+    }
+
+    /* Chip select rises. Returns the refusal number. */
+    uint8_t deselect() noexcept
+    {
+        return sleet_device_deselect(handle());
+    }
+
+    /* Array work of any number of units. Returns the refusal number. */
+    uint8_t work(uint64_t units) noexcept
+    {
+        return sleet_device_work(handle(), units);
+    }
+
+    /* WP# at a level, 0 low or 1 high. Returns the refusal number: 8 for a level above 1. */
+    uint8_t level(uint8_t level) noexcept
+    {
+        return sleet_device_level(handle(), level);
+    }
+
+    /* Power lost and back. Returns the refusal number. */
+    uint8_t power() noexcept
+    {
+        return sleet_device_power(handle());
+    }
+
+    /* ---- many bytes in one call ---- */
+
+    /*
+     * A whole transfer: chip select falls, `length` bytes of `di` go in and as many come out to `out`, chip select rises. Returns the
+     * refusal number. It is 9 where out_length is less than `length`: written() bytes were shifted, and the chip is left selected. Complete
+     * it by `shifts` with the bytes that are left, and `deselect`. On a chip that is selected already, the bytes continue the old transfer.
+     */
+    uint8_t transfer(const uint8_t *di, std::size_t length, uint8_t *out, std::size_t out_length) noexcept
+    {
+        return sleet_device_transfer(handle(), di, length, out, out_length);
+    }
+
+    /* A piece of a transfer: the bytes alone, with chip select as it is. Returns the refusal number, 9 as `transfer` does. */
+    uint8_t shifts(const uint8_t *di, std::size_t length, uint8_t *out, std::size_t out_length) noexcept
+    {
+        return sleet_device_shifts(handle(), di, length, out, out_length);
+    }
+
+    /* Runs a log. Returns the refusal number; records(), used() and written() say how far it came. */
+    uint8_t run(const uint8_t *log, std::size_t log_length, uint8_t *out, std::size_t out_length) noexcept
+    {
+        return sleet_device_run(handle(), log, log_length, out, out_length);
+    }
+
+    /* Runs a log as `run` does; orderly() then says whether it was orderly. Returns the refusal number: look at it first. */
+    uint8_t judge(const uint8_t *log, std::size_t log_length, uint8_t *out, std::size_t out_length) noexcept
+    {
+        return sleet_device_judge(handle(), log, log_length, out, out_length);
+    }
+
+#ifdef __cpp_lib_span
+    /* The same four over spans. */
+
+    uint8_t transfer(std::span<const uint8_t> di, std::span<uint8_t> out) noexcept
+    {
+        return transfer(di.data(), di.size(), out.data(), out.size());
+    }
+
+    uint8_t shifts(std::span<const uint8_t> di, std::span<uint8_t> out) noexcept
+    {
+        return shifts(di.data(), di.size(), out.data(), out.size());
+    }
+
+    uint8_t run(std::span<const uint8_t> log, std::span<uint8_t> out) noexcept
+    {
+        return run(log.data(), log.size(), out.data(), out.size());
+    }
+
+    uint8_t judge(std::span<const uint8_t> log, std::span<uint8_t> out) noexcept
+    {
+        return judge(log.data(), log.size(), out.data(), out.size());
+    }
+#endif
+
+    /* ---- the answer of the last call on the bus, or of the making ---- */
+
+    /* The refusal number. */
+    uint8_t refusal() const noexcept
+    {
+        return device_.refusal;
+    }
+
+    /* Records done. */
+    std::size_t records() const noexcept
+    {
+        return device_.records;
+    }
+
+    /* Log bytes used. */
+    std::size_t used() const noexcept
+    {
+        return device_.used;
+    }
+
+    /* Output bytes written. */
+    std::size_t written() const noexcept
+    {
+        return device_.written;
+    }
+
+    /* Where the last call was `judge`: whether its log was orderly, of a refused one as far as it was done. False after any other call. */
+    bool orderly() const noexcept
+    {
+        return device_.orderly;
+    }
+
+    /* ---- questions, which change nothing ---- */
+
+    /* Whether the device can be used. Returns 0, or the number 1 to 5 with which every call on the bus will be refused. */
+    uint8_t check() const noexcept
+    {
+        if (!sleet_geometry_sound(device_.part)) {
+            return SLEET_BAD_PART;
+        }
+        if (cells_.size() != sleet_cells_length(device_.part)) {
+            return SLEET_BAD_CELLS;
+        }
+        if (cache_.size() != sleet_cache_length(device_.part)) {
+            return SLEET_BAD_CACHE;
+        }
+        if (counts_.size() != sleet_counts_length(device_.part)) {
+            return SLEET_BAD_COUNTS;
+        }
+        return sleet_state_sound(device_.part, device_.state) ? SLEET_DONE : SLEET_BAD_STATE;
+    }
+
+    /* Whether `check` finds the device good. */
+    explicit operator bool() const noexcept
+    {
+        return check() == SLEET_DONE;
+    }
+
+    /* The byte that the next shift will put on DO, whatever is shifted in; FFh where part, cache register or state is refused. */
+    uint8_t peek() const noexcept
+    {
+        return cache_.empty() ? 0xFF : sleet_peek(device_.part, device_.state, cache_.data(), cache_.size()).byte;
+    }
+
+    /* Whether an operation is in progress: OIP in the status register. */
+    bool busy() const noexcept
+    {
+        return sleet_device_busy(&device_);
+    }
+
+    /* Whether the array is idle. */
+    bool ready() const noexcept
+    {
+        return sleet_device_ready(&device_);
+    }
+
+    /* How many units of work the operation in progress has left; 0 while the array is idle. */
+    std::size_t units_left() const noexcept
+    {
+        return sleet_device_units_left(&device_);
+    }
+
+    /* ---- what the device is made of ---- */
+
+    /* The part. */
+    const sleet_geometry &part() const noexcept
+    {
+        return device_.part;
+    }
+
+    /* The state after the last call. */
+    const sleet_state &state() const noexcept
+    {
+        return device_.state;
+    }
+
+    /*
+     * Cells, cache register and page counts. They may be changed between calls, for faults that no driver makes; with another length every
+     * call is refused with 2, 3 or 4.
+     */
+    const std::vector<uint8_t> &cells() const noexcept
+    {
+        return cells_;
+    }
+
+    std::vector<uint8_t> &cells() noexcept
+    {
+        return cells_;
+    }
+
+    const std::vector<uint8_t> &cache() const noexcept
+    {
+        return cache_;
+    }
+
+    std::vector<uint8_t> &cache() noexcept
+    {
+        return cache_;
+    }
+
+    const std::vector<uint8_t> &counts() const noexcept
+    {
+        return counts_;
+    }
+
+    std::vector<uint8_t> &counts() noexcept
+    {
+        return counts_;
+    }
+
+    /*
+     * The device as a handle for C code. It is good until the device is moved, given a new value or ended, or one of its vectors is changed
+     * in length; what C does by it is done to this device.
+     */
+    sleet_device *handle() noexcept
+    {
+        device_.cells = cells_.data();
+        device_.cells_length = cells_.size();
+        device_.cache = cache_.data();
+        device_.cache_length = cache_.size();
+        device_.counts = counts_.data();
+        device_.counts_length = counts_.size();
+        return &device_;
+    }
+
+private:
+    sleet_device device_; /* its pointers are those of the vectors from `handle` on, and not looked at before */
+    std::vector<uint8_t> cells_;
+    std::vector<uint8_t> cache_;
+    std::vector<uint8_t> counts_;
+};
+
+} // namespace sleetanvil
+
+#endif
