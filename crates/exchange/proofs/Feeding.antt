@@ -1,4 +1,5 @@
 -- Bytes fed one after another: what a loop over them holds, and what it has when it ends or hands the rest on.
+use mathlib.Core.Bool.{Bool}
 use mathlib.Core.List.{List, [], _∷_, _++_, append-assoc, append-nil}
 use mathlib.Core.Path.{_≡_, refl, sym, ap, _∙_}
 use Prim.Native.Nat.{ℕ, suc, _+_, _-_, _≤_, _<_}
@@ -6,20 +7,15 @@ use native.Mathlib.Numerals.{add-one}
 use native.Mathlib.Omega.{arith}
 use lib.ListN.{length, getD, take, drop, set, length-set, length-drop, take-append-drop}
 use lib.Seq.{take-all, drop-cons, drop-length, drop-drop, drop-set-lt, take-suc-set}
-use Rattle.part.specs.Part.{Sound}
 use Rattle.part.specs.declared.Column.{Column}
 use Rattle.part.specs.declared.Geometry.{Geometry}
-use Rattle.buslog.specs.Write.{over}
-use Rattle.buslog.specs.declared.Record.the-variants.{Shift}
-use Rattle.device.specs.Machine.{Machine, onCache}
-use Rattle.device.specs.Work.{stepping}
+use Rattle.registers.specs.Registers.{oip}
+use Rattle.transfer.specs.Transfer.{shiftedIn, cached}
+use Rattle.transfer.specs.declared.Bus.{Bus}
+use Rattle.reply.specs.Reply.{byteOut}
+use Rattle.device.specs.Machine.{Machine, onCache, busIn}
 use Rattle.device.specs.Instructions.{answer, shifts}
-use Rattle.device.specs.Step.{step}
 use Rattle.device.specs.declared.State.{State}
-use Rattle.kept.specs.Kept.{SoundMachine}
-use Rattle.kept.proofs.Steps.{step-keeps}
-use Rattle.walk.specs.Turns.{puts}
-use Rattle.walk.proofs.Turns.{over-one}
 use Rattle.stream.specs.Streams.{atColumn}
 use Rattle.stream.proofs.Shifting.{Moves}
 use Rattle.exchange.specs.Exchange.{fed, heard, Exchanged}
@@ -58,6 +54,16 @@ pub record Fed (g : Geometry) (di : List ℕ) (m₀ m : Machine) (out : List ℕ
 
 pub fed-none : (g : Geometry) (di : List ℕ) (m : Machine) (out : List ℕ) → Fed g di m m out 0
 fed-none g di m out = record { same = refl; lies = refl }
+
+-- what is left of a list, as the code lends it: the part up to its end; nothing stands behind it
+part-rest : (i : ℕ) (l : List ℕ) → take (length l - i) (drop i l) ≡ drop i l
+part-rest i l = take-all (length l - i) (drop i l) (rw (length-drop i l) (omega arith))
+
+behind-part : (i : ℕ) (l : List ℕ) → drop (length l - i) (drop i l) ≡ []
+behind-part i l = ap (λ (k : ℕ). drop k (drop i l)) (sym (length-drop i l)) ∙ drop-length (drop i l)
+
+pub part-fits : {di out₀ out : List ℕ} {i : ℕ} → Upto di out₀ out i → length (take (length di - i) (drop i di)) ≤ length (take (length out - i) (drop i out))
+part-fits {di} {out₀} {out} {i} u = rw (part-rest i di, part-rest i out, length-drop i di, length-drop i out) (omega (arith, u .room, u .out-long))
 
 module _ {g : Geometry} {di : List ℕ} {m₀ m : Machine} {out₀ out : List ℕ} {i : ℕ} (u : Upto di out₀ out i) (h : Fed g di m₀ m out i) where
   -- one byte more
@@ -109,63 +115,51 @@ module _ {g : Geometry} {di : List ℕ} {m₀ m : Machine} {out₀ out : List �
       behind : drop (length (drop i di)) (drop i out) ≡ drop (length di) out₀
       behind = rw (u .rest) (drop-drop (length (drop i di)) i out₀ ∙ ap (λ (k : ℕ). drop k out₀) end)
 
-  -- the same of what the code lends: a part up to the end, and what stood behind it
-  abbrev pub partOf : List ℕ → List ℕ
-  partOf l = take (length l - i) (drop i l)
-
-  part-rest : (l : List ℕ) → partOf l ≡ drop i l
-  part-rest l = take-all (length l - i) (drop i l) (rw (length-drop i l) (omega arith))
-
-  behind-part : (l : List ℕ) → drop (length l - i) (drop i l) ≡ []
-  behind-part l = ap (λ (k : ℕ). drop k (drop i l)) (sym (length-drop i l)) ∙ drop-length (drop i l)
-
-  pub part-fits : length (partOf di) ≤ length (partOf out)
-  part-fits = rw (part-rest di, part-rest out, length-drop i di, length-drop i out) (omega (arith, u .room, u .out-long))
-
-  pub fed-part : (m₁ : Machine) (out₁ : List ℕ) → m₁ ≡ fed g (partOf di) m → out₁ ≡ heard g (partOf di) m ++ drop (length (partOf di)) (partOf out)
+  -- the same of what the code lends
+  pub fed-part : (m₁ : Machine) (out₁ : List ℕ) → m₁ ≡ fed g (take (length di - i) (drop i di)) m
+      → out₁ ≡ heard g (take (length di - i) (drop i di)) m ++ drop (length (take (length di - i) (drop i di))) (take (length out - i) (drop i out))
       → Ended m₁ (take i out ++ (out₁ ++ drop (length out - i) (drop i out)))
-  fed-part m₁ out₁ x y = rw (behind-part out, append-nil out₁) (fed-rest m₁ out₁ (rw (part-rest di) at x) (rw (part-rest di, part-rest out) at y))
+  fed-part m₁ out₁ x y = rw (behind-part i out, append-nil out₁) (fed-rest m₁ out₁ (rw (part-rest i di) at x) (rw (part-rest i di, part-rest i out) at y))
 
--- ---- a stream: only the next column and the cache register change, whatever else the machine holds
+-- ---- a state fed: only its bus and the cache register change, whatever else the machine holds
 
--- i bytes fed, for every part and every machine
-pub record Along (s : State) (cache₀ di out₀ cache out : List ℕ) (c : Column) (i : ℕ) : Type 0 where
+-- i bytes fed
+pub record Along (g : Geometry) (s : State) (cache₀ di out₀ cache out : List ℕ) (x : Bus) (i : ℕ) : Type 0 where
   pub upto : Upto di out₀ out i
   pub cache-long : length cache ≡ length cache₀
-  pub done : (g : Geometry) (m : Machine) → Fed g di (onCache s cache₀ m) (onCache (atColumn c s) cache m) out i
+  pub done : (m : Machine) → Fed g di (onCache s cache₀ m) (onCache (busIn x s) cache m) out i
 
-pub along-none : (s : State) (cache di out : List ℕ) → length di ≤ length out → Along s cache di out cache out (s .bus .transfer .column) 0
-along-none s cache di out h = record { upto = upto-none di out h; cache-long = refl; done = λ g m. fed-none g di (onCache s cache m) out }
+pub along-none : (g : Geometry) (s : State) (cache di out : List ℕ) → length di ≤ length out → Along g s cache di out cache out (s .bus) 0
+along-none g s cache di out h = record { upto = upto-none di out h; cache-long = refl; done = λ m. fed-none g di (onCache s cache m) out }
 
-module _ {s : State} {cache₀ di out₀ cache out : List ℕ} {c : Column} {i : ℕ} (h : Along s cache₀ di out₀ cache out c i) where
-  pub along-one : {cache′ : List ℕ} {c′ : Column} {x : ℕ} → i < length di → length cache′ ≡ length cache → Moves s c c′ cache cache′ (getD di i 0) x
-      → Along s cache₀ di out₀ cache′ (set out i x) c′ (i + 1)
-  along-one {cache′} {c′} {x} l k v =
+module _ {g : Geometry} {s : State} {cache₀ di out₀ cache out : List ℕ} {x : Bus} {i : ℕ} (h : Along g s cache₀ di out₀ cache out x i) where
+  -- one byte more
+  pub along-one : (x′ : Bus) (cache′ : List ℕ) (v : ℕ) → i < length di → length cache′ ≡ length cache
+      → ((m : Machine) → shifts g (getD di i 0) (onCache (busIn x s) cache m) ≡ onCache (busIn x′ s) cache′ m) → answer g (busIn x s) cache ≡ v
+      → Along g s cache₀ di out₀ cache′ (set out i v) x′ (i + 1)
+  along-one x′ cache′ v l k f e =
+      record { upto = upto-one (h .upto) v l; cache-long = k ∙ h .cache-long; done = λ m. rw (← (f m)) (fed-one (h .upto) (h .done m) v l e) }
+
+  -- one byte in a stream, or one as the bus takes it
+  pub along-moves : {c c′ : Column} {cache′ : List ℕ} {v : ℕ} → x ≡ atColumn c s .bus → i < length di → length cache′ ≡ length cache
+      → Moves s c c′ cache cache′ (getD di i 0) v → Along g s cache₀ di out₀ cache′ (set out i v) (atColumn c′ s .bus) (i + 1)
+  along-moves {c} {c′} {cache′} {v} e l k p = along-one (atColumn c′ s .bus) cache′ v l k (λ m. rw e (p g .0 m)) (rw e (p g .1))
+
+  pub along-bus : (busy : Bool) (x′ : Bus) (cache′ : List ℕ) (v : ℕ) → i < length di → length cache′ ≡ length cache → busy ≡ oip (s .regs .c0)
+      → x′ ≡ shiftedIn g busy (getD di i 0) x → cache′ ≡ cached g x (getD di i 0) cache → v ≡ byteOut g (s .regs) x cache
+      → Along g s cache₀ di out₀ cache′ (set out i v) x′ (i + 1)
+  unfolding shifts answer
+  along-bus busy x′ cache′ v l k y p q e = along-one x′ cache′ v l k (λ m. rw (p, q, y)) (sym e)
+
+  -- all of them
+  pub along-all : length di ≤ i → Exchanged g s cache₀ di out₀ (busIn x s) cache out
+  along-all l = record { after = λ m. fed-all (h .upto) (h .done m) l .0; lies = λ m. fed-all (h .upto) (h .done m) l .1 }
+
+  -- the rest in one piece
+  pub along-part : (s₁ : State) (cache₁ out₁ : List ℕ) → Exchanged g (busIn x s) cache (take (length di - i) (drop i di)) (take (length out - i) (drop i out)) s₁ cache₁ out₁
+      → Exchanged g s cache₀ di out₀ s₁ cache₁ (take i out ++ (out₁ ++ drop (length out - i) (drop i out)))
+  along-part s₁ cache₁ out₁ y =
       record {
-        upto = upto-one (h .upto) x l;
-        cache-long = k ∙ h .cache-long;
-        done = λ g m. rw (← (v g .0 m)) (fed-one (h .upto) (h .done g m) x l (v g .1));
+        after = λ m. fed-part (h .upto) (h .done m) (onCache s₁ cache₁ m) out₁ (y .after m) (y .lies m) .0;
+        lies = λ m. fed-part (h .upto) (h .done m) (onCache s₁ cache₁ m) out₁ (y .after m) (y .lies m) .1;
       }
-
-  pub along-all : (g : Geometry) → length di ≤ i → Exchanged g s cache₀ di out₀ (atColumn c s) cache out
-  along-all g l = record { after = λ m. fed-all (h .upto) (h .done g m) l .0; lies = λ m. fed-all (h .upto) (h .done g m) l .1 }
-
--- ---- byte by byte: a machine that stays sound
-
-pub record Feeding (g : Geometry) (di out₀ : List ℕ) (m₀ m : Machine) (out : List ℕ) (i : ℕ) : Type 0 where
-  pub upto : Upto di out₀ out i
-  pub sound : SoundMachine g m
-  pub done : Fed g di m₀ m out i
-
-pub feeding-none : (g : Geometry) (di out : List ℕ) (m : Machine) → SoundMachine g m → length di ≤ length out → Feeding g di out m m out 0
-feeding-none g di out m s h = record { upto = upto-none di out h; sound = s; done = fed-none g di m out }
-
--- a turn with the next byte
-pub feeding-one : {g : Geometry} {di out₀ : List ℕ} {m₀ m : Machine} {out : List ℕ} {i : ℕ} → Feeding g di out₀ m₀ m out i → Sound g → i < length di → getD di i 0 < 256
-    → (m₁ : Machine) (out₁ : List ℕ) → m₁ ≡ step g (stepping g) m (Shift (getD di i 0)) → out₁ ≡ over out i (puts g m (Shift (getD di i 0))) → Feeding g di out₀ m₀ m₁ out₁ (i + 1)
-unfolding step
-feeding-one {g} {di} {out₀} {m₀} {m} {out} {i} h s l b m₁ out₁ x y =
-    let a : ℕ = answer g (m .state) (m .store .cache) in
-    let inside : i < length out = omega (arith, h .upto .room, h .upto .out-long) in
-    rw (x, y, ← (over-one out i a inside))
-    (record { upto = upto-one (h .upto) a l; sound = step-keeps g s m (Shift (getD di i 0)) b (h .sound); done = fed-one (h .upto) (h .done) a l refl })

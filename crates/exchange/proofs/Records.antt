@@ -1,7 +1,7 @@
 -- The records of bytes on the bus: their log is read to its end, what of it fits, and what its run leaves.
 use mathlib.Core.Bool.{true}
 use mathlib.Core.List.{List, [], _∷_, _++_, append-nil}
-use mathlib.Core.Path.{_≡_, refl, sym, ap, ap₂, _∙_}
+use mathlib.Core.Path.{_≡_, refl, sym, ap, _∙_}
 use Prim.Native.Nat.{ℕ, zero, suc, _+_, _-_, _≤_, _<_, min}
 use native.Mathlib.Numerals.{add-one}
 use native.Mathlib.Omega.{arith}
@@ -19,10 +19,11 @@ use Rattle.buslog.specs.declared.Record.{Record}
 use Rattle.buslog.specs.declared.Record.the-variants.{Select, Shift, Deselect}
 use Rattle.buslog.proofs.Logs.{parse-written}
 use Rattle.transfer.specs.Transfer.{selects}
-use Rattle.device.specs.Machine.{Machine, overBus}
-use Rattle.device.specs.Work.{Array, stepping}
+use Rattle.device.specs.Machine.{Machine, onCache, busIn, overBus}
+use Rattle.device.specs.Work.{Array}
 use Rattle.device.specs.Instructions.{answer, shifts, deselects}
 use Rattle.device.specs.Step.{step, run}
+use Rattle.device.specs.declared.State.{State}
 use Rattle.kept.specs.Kept.{SoundMachine}
 use Rattle.kept.proofs.Steps.{step-keeps}
 use Rattle.refusals.specs.Refusals.{passed, checkedAs}
@@ -33,7 +34,7 @@ use Rattle.walk.proofs.Turns.{over-none}
 use Rattle.model.specs.Runs.{End, shiftsIn, fitting, bytesOut, did, ranOf, runOf, seen, shown}
 use Rattle.model.proofs.Single.{run-ran}
 use Rattle.model.proofs.Rooms.{fitting-all, run-parts, out-parts, shifts-append}
-use Rattle.exchange.specs.Exchange.{shiftsOf, transferOf, unlogged, fed, heard}
+use Rattle.exchange.specs.Exchange.{shiftsOf, transferOf, unlogged, fed, heard, Exchanged}
 
 -- ---- the records
 
@@ -214,13 +215,17 @@ module _ (g : Geometry) (arr : Array) (m : Machine) (di out : List ℕ) where
 -- ---- the same of what the code has: the checks passed, and so many bytes exchanged
 
 module _ (g : Geometry) (arr : Array) (m : Machine) (di out : List ℕ) (k : Refusal) (ck : k ≡ checkedAs g m) (ok : passed k ≡ true)
-    (n : ℕ) (e : n ≡ min (length di) (length out)) (m₁ : Machine) (out₁ : List ℕ) where
+    (n : ℕ) (e : n ≡ min (length di) (length out)) (s₁ : State) (cache₁ out₁ : List ℕ) where
   -- the whole run
   abbrev ran : List Record → End
   ran es = unlogged (shown (runOf g arr (length out) (written es) m) out)
 
   as-run : (es : List Record) (x : End) → x ≡ ranOver g arr m di out es → x ≡ ran es
   as-run es x h = h ∙ ap unlogged (run-ran g arr out m (length out) (written es) k ck ok (shown (ranOf g arr (length out) (parse (written es)) m) out) refl)
+
+  -- the machine then
+  abbrev m₁ : Machine
+  m₁ = onCache s₁ cache₁ m
 
   -- the bytes that were lent
   lent : take (n - 0) di ≡ take n di
@@ -230,27 +235,22 @@ module _ (g : Geometry) (arr : Array) (m : Machine) (di out : List ℕ) (k : Ref
   lies-behind : (l : List ℕ) (x : List ℕ) → x ≡ l ++ drop (length (take n di)) out → x ≡ l ++ drop n out
   lies-behind l x h = h ∙ ap (λ (i : ℕ). l ++ drop i out) (some g arr m di out n e m₁ out₁)
 
-  -- the bytes exchanged, from a machine on
-  abbrev pub Ran : Machine → Type 0
-  Ran m₀ = (m₁ ≡ fed g (take (n - 0) di) m₀) × (out₁ ≡ heard g (take (n - 0) di) m₀ ++ drop (length (take (n - 0) di)) out)
-
-  module _ (x : Ran m) where
-    y : (m₁ ≡ fed g (take n di) m) × (out₁ ≡ heard g (take n di) m ++ drop (length (take n di)) out)
+  module _ (x : Exchanged g (m .state) (m .store .cache) (take (n - 0) di) out s₁ cache₁ out₁) where
+    y : Exchanged g (m .state) (m .store .cache) (take n di) out s₁ cache₁ out₁
     y = rw lent at x
 
     pub piece-stops : n < length di → left NoRoom m₁ n n out₁ ≡ ran (shiftsOf di)
-    piece-stops h = as-run (shiftsOf di) (left NoRoom m₁ n n out₁) (piece-short g arr m di out n e m₁ out₁ (y .0) (lies-behind (heard g (take n di) m) out₁ (y .1)) h)
+    piece-stops h = as-run (shiftsOf di) (left NoRoom m₁ n n out₁) (piece-short g arr m di out n e m₁ out₁ (y .after m) (lies-behind (heard g (take n di) m) out₁ (y .lies m)) h)
 
     pub piece-ends : length di ≤ n → left Done m₁ n n out₁ ≡ ran (shiftsOf di)
-    piece-ends h = as-run (shiftsOf di) (left Done m₁ n n out₁) (piece-whole g arr m di out n e m₁ out₁ (y .0) (lies-behind (heard g (take n di) m) out₁ (y .1)) h)
+    piece-ends h = as-run (shiftsOf di) (left Done m₁ n n out₁) (piece-whole g arr m di out n e m₁ out₁ (y .after m) (lies-behind (heard g (take n di) m) out₁ (y .lies m)) h)
 
-  module _ (x : Ran (step g arr m Select)) where
-    z : (m₁ ≡ fed g (take n di) (overBus selects m)) × (out₁ ≡ heard g (take n di) (overBus selects m) ++ drop (length (take n di)) out)
-    unfolding step
+  module _ (x : Exchanged g (busIn (selects (m .state .bus)) (m .state)) (m .store .cache) (take (n - 0) di) out s₁ cache₁ out₁) where
+    z : Exchanged g (busIn (selects (m .state .bus)) (m .state)) (m .store .cache) (take n di) out s₁ cache₁ out₁
     z = rw lent at x
 
     pub transfer-stops : n < length di → left NoRoom m₁ (n + 1) n out₁ ≡ ran (transferOf di)
-    transfer-stops h = as-run (transferOf di) (left NoRoom m₁ (n + 1) n out₁) (transfer-short g arr m di out n e m₁ out₁ (z .0) (lies-behind (heard g (take n di) (overBus selects m)) out₁ (z .1)) h)
+    transfer-stops h = as-run (transferOf di) (left NoRoom m₁ (n + 1) n out₁) (transfer-short g arr m di out n e m₁ out₁ (z .after m) (lies-behind (heard g (take n di) (overBus selects m)) out₁ (z .lies m)) h)
 
     -- and then chip select rises, which leaves the output alone
     pub transfer-ends : length di ≤ n → (m₂ : Machine) (out₂ : List ℕ) → m₂ ≡ step g arr m₁ Deselect → out₂ ≡ over out₁ n [] → left Done m₂ (n + 2) n out₂ ≡ ran (transferOf di)
@@ -258,14 +258,10 @@ module _ (g : Geometry) (arr : Array) (m : Machine) (di out : List ℕ) (k : Ref
     transfer-ends h m₂ out₂ d o =
         rw (o ∙ sym (over-none out₁ n))
         (as-run (transferOf di) (left Done m₂ (n + 2) n out₁)
-        (transfer-whole g arr m di out n e m₁ out₁ (z .0) (lies-behind (heard g (take n di) (overBus selects m)) out₁ (z .1)) h m₂ d))
+        (transfer-whole g arr m di out n e m₁ out₁ (z .after m) (lies-behind (heard g (take n di) (overBus selects m)) out₁ (z .lies m)) h m₂ d))
 
--- a select leaves the output alone too, and a machine sound
-pub selected : (g : Geometry) → Sound g → (m m₁ : Machine) (out out₁ : List ℕ) → m₁ ≡ step g (stepping g) m Select → out₁ ≡ over out 0 [] → SoundMachine g m
-    → SoundMachine g m₁ × (out₁ ≡ out)
-selected g s m m₁ out out₁ x y h = (rw x (step-keeps g s m Select tt h), y ∙ sym (over-none out 0))
+-- ---- bytes leave a machine sound
 
--- and so does feeding
 fed-keeps : (g : Geometry) → Sound g → (di : List ℕ) → Bytes di → (m : Machine) → SoundMachine g m → SoundMachine g (fed g di m)
 unfolding fed step
 fed-keeps g s [] b m h = h
@@ -277,17 +273,8 @@ take-bytes (suc n) [] h i = h i
 take-bytes (suc n) (x ∷ l) h zero = h 0
 take-bytes (suc n) (x ∷ l) h (suc i) = take-bytes n l (λ j. h (suc j)) i
 
-pub fed-sound : (g : Geometry) → Sound g → (n : ℕ) (di : List ℕ) → Bytes di → (m m₁ : Machine) → SoundMachine g m → m₁ ≡ fed g (take n di) m → SoundMachine g m₁
-fed-sound g s n di b m m₁ h x = rw x (fed-keeps g s (take n di) (take-bytes n di b) m h)
-
--- bytes exchanged behind a select: said from before it
-pub from-select : (g : Geometry) (arr : Array) (m : Machine) (di out : List ℕ) (m₁ : Machine) (out₁ : List ℕ) (mₛ : Machine) (outₛ : List ℕ) → mₛ ≡ step g arr m Select → outₛ ≡ over out 0 []
-    → (m₁ ≡ fed g di mₛ) × (out₁ ≡ heard g di mₛ ++ drop (length di) outₛ) → (m₁ ≡ fed g di (step g arr m Select)) × (out₁ ≡ heard g di (step g arr m Select) ++ drop (length di) out)
-from-select g arr m di out m₁ out₁ mₛ outₛ x y r = (
-  r .0 ∙ ap (fed g di) x,
-  r .1 ∙ ap₂ (λ (n : Machine) (l : List ℕ). heard g di n ++ drop (length di) l) x (y ∙ sym (over-none out 0)),
-)
-
--- and there is room for them
-pub room-left : (n : ℕ) (di out outₛ : List ℕ) → n ≡ min (length di) (length out) → outₛ ≡ over out 0 [] → length (take (n - 0) di) ≤ length outₛ
-room-left n di out outₛ e y = rw (y ∙ sym (over-none out 0)) (omega (arith, length-take-le (n - 0) di (omega arith)))
+-- behind a select
+pub selected-sound : (g : Geometry) → Sound g → (m : Machine) (n : ℕ) (di out : List ℕ) → Bytes di → (s₁ : State) (cache₁ out₁ : List ℕ) → SoundMachine g m
+    → Exchanged g (busIn (selects (m .state .bus)) (m .state)) (m .store .cache) (take n di) out s₁ cache₁ out₁ → SoundMachine g (onCache s₁ cache₁ m)
+unfolding step
+selected-sound g s m n di out b s₁ cache₁ out₁ h x = rw (x .after m) (fed-keeps g s (take n di) (take-bytes n di b) (overBus selects m) (step-keeps g s m Select tt h))

@@ -1,19 +1,16 @@
 // Bytes exchanged on the bus, with no log in between: a whole transfer, or a piece of one. Each is the run of its records.
 // Document 01, "Logs" and "Instructions".
 ghost use mathlib.Core.Bool.{true};
-ghost use mathlib.Core.List.{_++_};
 ghost use mathlib.Core.Path.{_≡_};
 ghost use Prim.Native.Nat.{_≤_, min};
-ghost use lib.ListN.{length, drop};
-ghost use Rattle.part.specs.Part.{Sound};
+ghost use lib.ListN.{length};
 ghost use Rattle.buslog.specs.Log.{written};
 ghost use Rattle.transfer.specs.Transfer.{is};
 ghost use Rattle.device.specs.Machine.{machine};
 ghost use Rattle.device.specs.Work.{stepping};
-ghost use Rattle.kept.specs.Kept.{SoundMachine};
 ghost use Rattle.model.specs.Runs.{runOf, seen, shown};
 ghost use Rattle.stream.specs.Streams.{Past, loading, streams};
-ghost use Rattle.exchange.specs.Exchange.{shiftsOf, transferOf, unlogged, fed, heard, Exchanged};
+ghost use Rattle.exchange.specs.Exchange.{shiftsOf, transferOf, unlogged, Exchanged};
 use buslog::Record;
 use device::State;
 use part::Geometry;
@@ -71,31 +68,27 @@ fn streamed(g: Geometry, s: State, di: &[u8], cache: &mut [u8], out: &mut [u8]) 
     loads(g, s, di, cache, out)
 }
 
-// Bytes in on DI and out on DO: one after another, and once they are a stream all that are left.
-fn exchanged(
-    g: Geometry,
-    state: State,
-    di: &[u8],
-    cells: &mut [u8],
-    cache: &mut [u8],
-    counts: &mut [u8],
-    out: &mut [u8],
-) -> State
-    requires { ⌜ (Sound g) × (SoundMachine g (machine state (now cells) (now cache) (now counts))) × (length (now di) ≤ length (now out)) ⌝ }
-    ensures { λ r.
-        ⌜ (machine r (now (cells .exit)) (now (cache .exit)) (now (counts .exit)) ≡ fed g (now (di .entry)) (machine state (now (cells .entry)) (now (cache .entry)) (now (counts .entry))))
-        × (now (out .exit) ≡ heard g (now (di .entry)) (machine state (now (cells .entry)) (now (cache .entry)) (now (counts .entry))) ++ drop (length (now (di .entry))) (now (out .entry))) ⌝ }
+// Bytes in on DI and out on DO: one after another, and once they are a stream all that are left. Only the bus and the cache register
+// change, and the rest of the state stays aside.
+fn exchanged(g: Geometry, s: State, di: &[u8], cache: &mut [u8], out: &mut [u8]) -> State
+    requires { ⌜ length (now di) ≤ length (now out) ⌝ }
+    ensures { λ r. ⌜ Exchanged g s (now (cache .entry)) (now (di .entry)) (now (out .entry)) r (now (cache .exit)) (now (out .exit)) ⌝ }
 {
-    let mut s = state;
+    let r = s.regs;
+    let busy = registers::oip(r.c0);
+    let mut x = s.bus;
     let mut i = 0;
     while i < di.len() {
-        if stream::streams(s.bus) {
-            return streamed(g, s, &di[i..], cache, &mut out[i..]);
+        if stream::streams(x) {
+            return streamed(g, State { bus: x, ..s }, &di[i..], cache, &mut out[i..]);
         }
-        s = walk::turn(g, s, Record::Shift(di[i]), i, cells, cache, counts, out);
+        let b = di[i];
+        out[i] = reply::byte_out(g, r, x, &*cache);
+        x.caches(g, b, cache);
+        x = x.shifted_in(g, busy, b);
         i += 1;
     }
-    s
+    State { bus: x, ..s }
 }
 
 // A piece of a transfer: bytes in and out, with chip select as it is. The output's room says how many; 9 where it is too little.
@@ -117,7 +110,7 @@ pub fn shifts(
         return Walk::start(state).so_far(k);
     }
     let n = least(di.len(), out.len());
-    let s = exchanged(g, state, &di[0..n], cells, cache, counts, out);
+    let s = exchanged(g, state, &di[0..n], cache, out);
     if n < di.len() {
         return Answer {
             refusal: Refusal::NoRoom,
@@ -156,8 +149,8 @@ pub fn transfer(
         return Walk::start(state).so_far(k);
     }
     let n = least(di.len(), out.len());
-    let on = walk::turn(g, state, Record::Select, 0, cells, cache, counts, out);
-    let s = exchanged(g, on, &di[0..n], cells, cache, counts, out);
+    let on = state.select();
+    let s = exchanged(g, on, &di[0..n], cache, out);
     if n < di.len() {
         return Answer {
             refusal: Refusal::NoRoom,

@@ -5,25 +5,27 @@ use native.Mathlib.Omega.{arith}
 use denote.Ref.{now}
 use lib.ListN.{length}
 use borrow.Author.Needs.{needs}
+use Rattle.part.specs.declared.Geometry.{Geometry}
+use Rattle.stream.specs.Streams.{atColumn}
 use Rattle.stream.proofs.Shifting.{read-moves}
-use Rattle.exchange.proofs.Feeding.{Along, along-none, along-one, along-all}
+use Rattle.exchange.proofs.Feeding.{Along, along-none, along-moves, along-all}
 use Rattle.exchange.proofs.reads.Statement.{statement}
 use Rattle.exchange.proofs.reads.Tie as tie
 
 abbrev Inv-loop : tie.InvT-loop
-Inv-loop s di cache out₀ c₀ i₀ out c i = Along s cache di out₀ cache out c i
+Inv-loop s di cache out₀ c₀ i₀ out c i = (g : Geometry) → Along g s cache di out₀ cache out (atColumn c s .bus) i
 
 abbrev μ-loop : tie.MeasureT-loop
 μ-loop s di cache out₀ c₀ i₀ out c i = length di - i
 
 loop-holds : tie.Need-loop-holds Inv-loop μ-loop
-loop-holds c = along-none (c .before .before .before .before .args .s) (now (c .before .before .before .before .args .cache)) (now (c .before .before .before .before .args .di)) (now (c .before .before .before .before .args .out)) (c .before .before .before .before .pre .2)
+loop-holds c = λ g. along-none g (c .before .before .before .before .args .s) (now (c .before .before .before .before .args .cache)) (now (c .before .before .before .before .args .di)) (now (c .before .before .before .before .args .out)) (c .before .before .before .before .pre .2)
 
 byte-at-requires : tie.Need-byte-at-requires Inv-loop μ-loop
 byte-at-requires c κs = search needs
 
 slice-write-out : tie.Need-slice-write-out Inv-loop μ-loop
-slice-write-out c = let h = c .before .before .loop .inv .upto in omega (arith, c .before .loop-test .taken, h .room, h .out-long)
+slice-write-out c = let h = c .before .before .loop .inv (c .before .before .before .before .before .before .before .args .g) .upto in omega (arith, c .before .loop-test .taken, h .room, h .out-long)
 
 next-column-requires : tie.Need-next-column-requires Inv-loop μ-loop
 next-column-requires c κs = search needs
@@ -37,17 +39,17 @@ loop-less c = search needs
 loop-again : tie.Need-loop-again Inv-loop μ-loop
 loop-again c =
     rw (c .next-column .ensures, c .before .byte-at .ensures)
-    (along-one (c .before .before .before .loop .inv) (c .before .before .loop-test .taken) refl
+    (λ g. along-moves (c .before .before .before .loop .inv g) refl (c .before .before .loop-test .taken) refl
     (read-moves (c .before .before .before .before .before .before .before .before .args .s) (c .before .before .before .before .before .before .before .before .pre .0) (c .before .before .before .loop .c) (now (c .before .before .before .before .before .before .before .before .args .cache)) _ (c .before .before .before .before .before .before .before .before .pre .1)))
 
 at-column-requires : tie.Need-at-column-requires Inv-loop μ-loop
 at-column-requires c κs = search needs
 
 same-length : tie.Need-same-length Inv-loop μ-loop
-same-length c = c .before .before .loop .inv .upto .out-long
+same-length c = c .before .before .loop .inv (c .before .before .before .before .before .before .before .args .g) .upto .out-long
 
 returns : tie.Need-returns Inv-loop μ-loop
-returns c = rw (c .at-column .ensures) (along-all (c .before .before .loop .inv) (c .before .before .before .before .before .before .before .args .g) (omega (arith, c .before .loop-test .left)))
+returns c = rw (c .at-column .ensures) (along-all (c .before .before .loop .inv (c .before .before .before .before .before .before .before .args .g)) (omega (arith, c .before .loop-test .left)))
 
 pub reads-spec : {M : Type 1} → statement M
 reads-spec =

@@ -7,7 +7,7 @@ use borrow.Author.Needs.{needs}
 use Rattle.buslog.specs.Log.{written}
 use Rattle.device.specs.Machine.{machine}
 use Rattle.device.specs.Work.{stepping}
-use Rattle.refusals.proofs.Checked.{sound-as, passed-no, passed-yes}
+use Rattle.refusals.proofs.Checked.{passed-no, passed-yes}
 use Rattle.model.proofs.Single.{run-refused}
 use Rattle.exchange.specs.Exchange.{shiftsOf, unlogged}
 use Rattle.exchange.proofs.Records.{piece-stops, piece-ends}
@@ -44,7 +44,7 @@ part-exchanged-end : tie.Need-part-exchanged-end
 part-exchanged-end c = search needs
 
 exchanged-requires : tie.Need-exchanged-requires
-exchanged-requires c κs = let h = (sound-as (c .before .before .before .before .before .before .before .before .before .before .before .before .before .before .args .g) (machine (c .before .before .before .before .before .before .before .before .before .before .before .before .before .before .args .state) (now (c .before .before .before .before .before .before .before .before .before .before .before .before .before .before .args .cells)) (now (c .before .before .before .before .before .before .before .before .before .before .before .before .before .before .args .cache)) (now (c .before .before .before .before .before .before .before .before .before .before .before .before .before .before .args .counts))) (c .before .before .before .before .before .before .before .before .check .result) (c .before .before .before .before .before .before .before .before .check .ensures) (passed-yes (c .before .before .before .before .before .before .before .before .check .result) _ (c .before .before .before .before .before .before .before .passes .ensures) (c .before .before .before .before .before .before .if1 .left))) in (h .0, h .1, search (needs, c .before .before .before .before .before .least .ensures))
+exchanged-requires c κs = search needs
 
 same-length : tie.Need-same-length
 same-length c = search needs
@@ -52,35 +52,23 @@ same-length c = search needs
 same-length-2 : tie.Need-same-length-2
 same-length-2 c = search needs
 
+returns-2 : tie.Need-returns-2
+returns-2 c =
+    piece-stops (c .before .before .before .before .before .before .before .before .before .before .before .before .before .before .before .before .before .before .args .g) (stepping (c .before .before .before .before .before .before .before .before .before .before .before .before .before .before .before .before .before .before .args .g)) (machine (c .before .before .before .before .before .before .before .before .before .before .before .before .before .before .before .before .before .before .args .state) (now (c .before .before .before .before .before .before .before .before .before .before .before .before .before .before .before .before .before .before .args .cells)) (now (c .before .before .before .before .before .before .before .before .before .before .before .before .before .before .before .before .before .before .args .cache)) (now (c .before .before .before .before .before .before .before .before .before .before .before .before .before .before .before .before .before .before .args .counts))) (now (c .before .before .before .before .before .before .before .before .before .before .before .before .before .before .before .before .before .before .args .di)) (now (c .before .before .before .before .before .before .before .before .before .before .before .before .before .before .before .before .before .before .args .out)) (c .before .before .before .before .before .before .before .before .before .before .before .before .check .result) (c .before .before .before .before .before .before .before .before .before .before .before .before .check .ensures)
+    (passed-yes (c .before .before .before .before .before .before .before .before .before .before .before .before .check .result) _ (c .before .before .before .before .before .before .before .before .before .before .before .passes .ensures) (c .before .before .before .before .before .before .before .before .before .before .if1 .left)) (c .before .before .before .before .before .before .before .before .before .least .result) (c .before .before .before .before .before .before .before .before .before .least .ensures) (c .before .before .before .before .before .exchanged .result) (c .before .before .before .before .before .exchanged .last .1 .1 .1 .0) (c .before .before .before .before .before .exchanged .last .1 .1 .1 .1 .0)
+    (c .before .before .before .before .before .exchanged .ensures) (omega (arith, c .if2 .taken))
+
 same-length-3 : tie.Need-same-length-3
 same-length-3 c = search needs
 
 same-length-4 : tie.Need-same-length-4
 same-length-4 c = search needs
 
-returns-2 : tie.Need-returns-2
-returns-2 c =
-    piece-stops (c .before .before .before .before .before .before .before .before .before .before .before .before .before .before .before .before .before .before .before .before .before .before .before .before .args .g) (stepping (c .before .before .before .before .before .before .before .before .before .before .before .before .before .before .before .before .before .before .before .before .before .before .before .before .args .g)) (machine (c .before .before .before .before .before .before .before .before .before .before .before .before .before .before .before .before .before .before .before .before .before .before .before .before .args .state) (now (c .before .before .before .before .before .before .before .before .before .before .before .before .before .before .before .before .before .before .before .before .before .before .before .before .args .cells)) (now (c .before .before .before .before .before .before .before .before .before .before .before .before .before .before .before .before .before .before .before .before .before .before .before .before .args .cache)) (now (c .before .before .before .before .before .before .before .before .before .before .before .before .before .before .before .before .before .before .before .before .before .before .before .before .args .counts))) (now (c .before .before .before .before .before .before .before .before .before .before .before .before .before .before .before .before .before .before .before .before .before .before .before .before .args .di)) (now (c .before .before .before .before .before .before .before .before .before .before .before .before .before .before .before .before .before .before .before .before .before .before .before .before .args .out)) (c .before .before .before .before .before .before .before .before .before .before .before .before .before .before .before .before .before .before .check .result) (c .before .before .before .before .before .before .before .before .before .before .before .before .before .before .before .before .before .before .check .ensures)
-    (passed-yes (c .before .before .before .before .before .before .before .before .before .before .before .before .before .before .before .before .before .before .check .result) _ (c .before .before .before .before .before .before .before .before .before .before .before .before .before .before .before .before .before .passes .ensures) (c .before .before .before .before .before .before .before .before .before .before .before .before .before .before .before .before .if1 .left)) (c .before .before .before .before .before .before .before .before .before .before .before .before .before .before .before .least .result) (c .before .before .before .before .before .before .before .before .before .before .before .before .before .before .before .least .ensures) _ _
-    (c .before .before .before .before .before .before .before .before .before .exchanged .ensures) (omega (arith, c .if2 .taken))
-
-same-length-5 : tie.Need-same-length-5
-same-length-5 c = search needs
-
-same-length-6 : tie.Need-same-length-6
-same-length-6 c = search needs
-
-same-length-7 : tie.Need-same-length-7
-same-length-7 c = search needs
-
-same-length-8 : tie.Need-same-length-8
-same-length-8 c = search needs
-
 returns-3 : tie.Need-returns-3
 returns-3 c =
-    piece-ends (c .before .before .before .before .before .before .before .before .before .before .before .before .before .before .before .before .before .before .before .before .before .before .before .before .args .g) (stepping (c .before .before .before .before .before .before .before .before .before .before .before .before .before .before .before .before .before .before .before .before .before .before .before .before .args .g)) (machine (c .before .before .before .before .before .before .before .before .before .before .before .before .before .before .before .before .before .before .before .before .before .before .before .before .args .state) (now (c .before .before .before .before .before .before .before .before .before .before .before .before .before .before .before .before .before .before .before .before .before .before .before .before .args .cells)) (now (c .before .before .before .before .before .before .before .before .before .before .before .before .before .before .before .before .before .before .before .before .before .before .before .before .args .cache)) (now (c .before .before .before .before .before .before .before .before .before .before .before .before .before .before .before .before .before .before .before .before .before .before .before .before .args .counts))) (now (c .before .before .before .before .before .before .before .before .before .before .before .before .before .before .before .before .before .before .before .before .before .before .before .before .args .di)) (now (c .before .before .before .before .before .before .before .before .before .before .before .before .before .before .before .before .before .before .before .before .before .before .before .before .args .out)) (c .before .before .before .before .before .before .before .before .before .before .before .before .before .before .before .before .before .before .check .result) (c .before .before .before .before .before .before .before .before .before .before .before .before .before .before .before .before .before .before .check .ensures)
-    (passed-yes (c .before .before .before .before .before .before .before .before .before .before .before .before .before .before .before .before .before .before .check .result) _ (c .before .before .before .before .before .before .before .before .before .before .before .before .before .before .before .before .before .passes .ensures) (c .before .before .before .before .before .before .before .before .before .before .before .before .before .before .before .before .if1 .left)) (c .before .before .before .before .before .before .before .before .before .before .before .before .before .before .before .least .result) (c .before .before .before .before .before .before .before .before .before .before .before .before .before .before .before .least .ensures) _ _
-    (c .before .before .before .before .before .before .before .before .before .exchanged .ensures) (omega (arith, c .if2 .left))
+    piece-ends (c .before .before .before .before .before .before .before .before .before .before .before .before .before .before .before .before .before .before .args .g) (stepping (c .before .before .before .before .before .before .before .before .before .before .before .before .before .before .before .before .before .before .args .g)) (machine (c .before .before .before .before .before .before .before .before .before .before .before .before .before .before .before .before .before .before .args .state) (now (c .before .before .before .before .before .before .before .before .before .before .before .before .before .before .before .before .before .before .args .cells)) (now (c .before .before .before .before .before .before .before .before .before .before .before .before .before .before .before .before .before .before .args .cache)) (now (c .before .before .before .before .before .before .before .before .before .before .before .before .before .before .before .before .before .before .args .counts))) (now (c .before .before .before .before .before .before .before .before .before .before .before .before .before .before .before .before .before .before .args .di)) (now (c .before .before .before .before .before .before .before .before .before .before .before .before .before .before .before .before .before .before .args .out)) (c .before .before .before .before .before .before .before .before .before .before .before .before .check .result) (c .before .before .before .before .before .before .before .before .before .before .before .before .check .ensures)
+    (passed-yes (c .before .before .before .before .before .before .before .before .before .before .before .before .check .result) _ (c .before .before .before .before .before .before .before .before .before .before .before .passes .ensures) (c .before .before .before .before .before .before .before .before .before .before .if1 .left)) (c .before .before .before .before .before .before .before .before .before .least .result) (c .before .before .before .before .before .before .before .before .before .least .ensures) (c .before .before .before .before .before .exchanged .result) (c .before .before .before .before .before .exchanged .last .1 .1 .1 .0) (c .before .before .before .before .before .exchanged .last .1 .1 .1 .1 .0)
+    (c .before .before .before .before .before .exchanged .ensures) (omega (arith, c .if2 .left))
 
 pub shifts-spec : {M : Type 1} → statement M
 shifts-spec =
@@ -98,11 +86,7 @@ shifts-spec =
     exchanged-requires
     same-length
     same-length-2
+    returns-2
     same-length-3
     same-length-4
-    returns-2
-    same-length-5
-    same-length-6
-    same-length-7
-    same-length-8
     returns-3)
