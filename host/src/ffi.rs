@@ -121,12 +121,8 @@ extern "C" {
     ) -> u8;
     fn sleet_operation_length(part: Geometry, job: u8) -> usize;
     fn sleet_units_left(part: Geometry, state: State) -> usize;
-    fn sleet_peek(
-        part: Geometry,
-        state: State,
-        cache: *const u8,
-        cache_length: usize,
-    ) -> RawPeeked;
+    fn sleet_peek(part: Geometry, state: State, cache: *const u8, cache_length: usize)
+        -> RawPeeked;
     fn sleet_transfer(
         part: Geometry,
         state: State,

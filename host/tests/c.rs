@@ -7,6 +7,7 @@
 mod support;
 
 use std::env;
+use std::fs;
 use std::path::{Path, PathBuf};
 use std::process::Command;
 
@@ -58,6 +59,27 @@ fn c_headers_from_cpp() {
     }
 }
 
+/// The program in the project's README, as it stands there.
+#[test]
+fn the_readmes_program() {
+    let readme = Path::new(env!("CARGO_MANIFEST_DIR")).join("../README.md");
+    let text = fs::read_to_string(readme).expect("the README");
+    let lines = text
+        .lines()
+        .skip_while(|line| *line != "    #include <stdio.h>");
+    let mut program = Vec::new();
+    for line in lines {
+        program.push(line.strip_prefix("    ").unwrap_or(line));
+        if line == "    }" {
+            break;
+        }
+    }
+    let source = Path::new(env!("CARGO_TARGET_TMPDIR")).join("readme.c");
+    fs::write(&source, program.join("\n") + "\n").expect("a file of the tests");
+    let source = source.to_str().expect("a plain path");
+    assert_eq!(Compiler::c(C[0]).run_test(source, &[]), "5A 01\n");
+}
+
 /// A compiler with a language and a standard.
 struct Compiler {
     words: Vec<String>,
@@ -105,7 +127,7 @@ impl Compiler {
         }
     }
 
-    /// A call on a file of `c/` with every warning an error.
+    /// A call on a file of `c/`, or one with its whole path, with every warning an error.
     fn strict(&self, source: &str) -> Command {
         let package = Path::new(env!("CARGO_MANIFEST_DIR"));
         let headers = env::var_os("SLEETANVIL_INCLUDE")
@@ -119,9 +141,10 @@ impl Compiler {
         command
     }
 
-    /// Compile a test, link it with the library, and run it.
-    fn run_test(&self, source: &str, more: &[&str]) {
-        let name = format!("{source}_{}", self.standard).replace(['.', '+'], "_");
+    /// Compile a test, link it with the library, and run it. Gives what it printed.
+    fn run_test(&self, source: &str, more: &[&str]) -> String {
+        let file = Path::new(source).file_name().expect("a file's name");
+        let name = format!("{}_{}", file.to_string_lossy(), self.standard).replace(['.', '+'], "_");
         let program = Path::new(env!("CARGO_TARGET_TMPDIR")).join(name);
         run(self
             .strict(source)
@@ -130,12 +153,12 @@ impl Compiler {
             .arg(env!("SLEETANVIL_ARCHIVE"))
             .arg("-o")
             .arg(&program));
-        run(&mut support::program(&program));
+        run(&mut support::program(&program))
     }
 }
 
-/// Run a command, which has to end well.
-fn run(command: &mut Command) {
+/// Run a command, which has to end well. Gives what it printed.
+fn run(command: &mut Command) -> String {
     let output = command
         .output()
         .unwrap_or_else(|error| panic!("{command:?}: {error}"));
@@ -146,4 +169,5 @@ fn run(command: &mut Command) {
         String::from_utf8_lossy(&output.stdout),
         String::from_utf8_lossy(&output.stderr)
     );
+    String::from_utf8_lossy(&output.stdout).into_owned()
 }

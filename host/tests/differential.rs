@@ -82,7 +82,10 @@ fn transfers_agree() {
             },
             ..model(&case)
         };
-        for (expected, of) in [(transfer_of_model(&case, &di, whole), "calls"), (run, "run")] {
+        for (expected, of) in [
+            (transfer_of_model(&case, &di, whole), "calls"),
+            (run, "run"),
+        ] {
             if let Some(difference) = difference(&got, &expected) {
                 panic!("seed {seed}, case {number}, the model's {of}: {difference}\n{case}");
             }
@@ -94,7 +97,9 @@ fn transfers_agree() {
 
 /// The bytes of a transfer: any, or those of an instruction with a column and much data.
 fn any_transfer(rng: &mut Rng, geometry: &Geometry) -> Vec<u8> {
-    let codes = [0x03, 0x0B, 0x02, 0x84, 0x0F, 0x9F, 0x1F, 0x13, 0x10, 0xD8, 0x06, 0xFF];
+    let codes = [
+        0x03, 0x0B, 0x02, 0x84, 0x0F, 0x9F, 0x1F, 0x13, 0x10, 0xD8, 0x06, 0xFF,
+    ];
     let page = (u64::from(geometry.data) + u64::from(geometry.spare)).min(4200) as usize;
     let length = match rng.below(4) {
         0 => rng.below(6),
@@ -124,7 +129,11 @@ fn transfer_of_library(case: &Case, di: &[u8], whole: bool) -> Outcome {
 fn transfer_of_model(case: &Case, di: &[u8], whole: bool) -> Outcome {
     let mut buffers = case.buffers();
     let (memory, out) = buffers.lent_to_paper();
-    let call = if whole { paper::transfer } else { paper::shifts };
+    let call = if whole {
+        paper::transfer
+    } else {
+        paper::shifts
+    };
     let answer = call(&case.geometry.into(), case.state.into(), di, memory, out).into();
     Outcome { answer, buffers }
 }
@@ -146,7 +155,10 @@ fn a_transfer_in_pieces_is_the_whole_transfer() {
         let mut rest = pieces.out.split_off(room);
         let (mut memory, out) = pieces.lent();
         let first = lent::transfer(&case.geometry, case.state, &di, &mut memory, out);
-        assert_eq!((first.refusal, first.written), (Some(Refusal::NoRoom), room));
+        assert_eq!(
+            (first.refusal, first.written),
+            (Some(Refusal::NoRoom), room)
+        );
         assert!(first.state.is_selected());
         let left = &di[room..];
         let second = lent::shifts(&case.geometry, first.state, left, &mut memory, &mut rest);
@@ -206,7 +218,8 @@ fn work_agrees() {
             let mut left = units;
             while left > 0 {
                 let some = left.min(1 + rng.below(65_535) as u64);
-                case.log.extend([&[4], &(some as u16).to_le_bytes()[..]].concat());
+                case.log
+                    .extend([&[4], &(some as u16).to_le_bytes()[..]].concat());
                 left -= some;
             }
             let run = model(&case);

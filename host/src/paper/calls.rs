@@ -110,12 +110,7 @@ fn on_device(
 
 impl Device<'_> {
     /// Bytes in and out, as far as the output has room.
-    fn exchange(
-        &mut self,
-        di: &[u8],
-        out: &mut [u8],
-        answer: &mut Answer,
-    ) -> Result<(), Refusal> {
+    fn exchange(&mut self, di: &[u8], out: &mut [u8], answer: &mut Answer) -> Result<(), Refusal> {
         for (&byte, place) in di.iter().zip(out.iter_mut()) {
             *place = self.shift(byte);
         }

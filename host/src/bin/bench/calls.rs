@@ -21,7 +21,10 @@ pub fn compare(geometry: &Geometry, buffers: &mut Buffers) {
     let mut naive = naive(geometry);
 
     let times = events(geometry, buffers, &mut naive);
-    println!("{}", times.row("one event a call, polls", "event", POLL.len() + 2));
+    println!(
+        "{}",
+        times.row("one event a call, polls", "event", POLL.len() + 2)
+    );
     for (name, di) in [
         ("one transfer a call, a poll", &POLL[..]),
         ("one transfer a call, a page read out", &read_out),
@@ -33,7 +36,10 @@ pub fn compare(geometry: &Geometry, buffers: &mut Buffers) {
     }
     let mixed = mixed(geometry);
     let times = judgement(geometry, buffers, &mixed.log);
-    println!("{}", times.row("judge, mixed driver log", "record", mixed.count));
+    println!(
+        "{}",
+        times.row("judge, mixed driver log", "record", mixed.count)
+    );
 }
 
 fn naive(geometry: &Geometry) -> Naive {
