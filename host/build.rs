@@ -1,10 +1,10 @@
 //! Links the proved library, `libsleetanvil.a`.
 //!
-//! It is looked for in the folder that the environment variable `SLEETANVIL_LIB` names, else in
-//! `../target/staticlib`.
+//! It is looked for in the folder that the environment variable `SLEETANVIL_LIB` names, by its
+//! whole path, else in `../target/staticlib`.
 
 use std::env;
-use std::path::{Path, PathBuf};
+use std::path::PathBuf;
 use std::process;
 
 const ARCHIVE: &str = "libsleetanvil.a";
@@ -29,7 +29,20 @@ fn main() {
 fn folder() -> PathBuf {
     let package = PathBuf::from(env::var_os("CARGO_MANIFEST_DIR").unwrap_or_default());
     match env::var_os("SLEETANVIL_LIB") {
-        Some(folder) if !folder.is_empty() => package.join(Path::new(&folder)),
+        Some(folder) if !folder.is_empty() => whole(PathBuf::from(folder)),
         _ => package.join("../target/staticlib"),
     }
+}
+
+/// A path that does not depend on where it is read: cargo starts this program in the package's
+/// folder, which is seldom the one that a relative path was meant from.
+fn whole(folder: PathBuf) -> PathBuf {
+    if !folder.is_absolute() {
+        eprintln!(
+            "error: SLEETANVIL_LIB is {}: give it as a whole path.",
+            folder.display()
+        );
+        process::exit(1);
+    }
+    folder
 }

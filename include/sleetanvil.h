@@ -10,6 +10,10 @@
  * device's memory: lend the same ones again with the state. For a geometry of D data bytes and S spare bytes per page (P = D + S), K pages
  * per block and N blocks, their lengths are P*K*N, P and K*N (`sleet_cells_length`, `sleet_cache_length`, `sleet_counts_length`).
  *
+ * A device that was never used has cells FFh, a cache register FFh and page counts 0 (`sleet_blank`), and begins at `sleet_power_up`. Time
+ * is counted in units of array work: a unit is one byte of an operation, so that a page read or a program takes P units and an erase K*P.
+ * Without work the array never gets ready. docs/MACHINE.md says what the machine does, instruction by instruction.
+ *
  * A simulator that has whole transfers calls `sleet_transfer`; one that has bytes calls the events; one that has a log calls `sleet_run`.
  * `sleetanvil_device.h` bundles part, state and memory into a handle for C, and `sleetanvil.hpp` into a class for C++.
  */
@@ -131,8 +135,15 @@ enum { SLEET_IGNORED = 0x100 }; /* `instruction` where there is none to carry ou
 enum { SLEET_IDLE = 0, SLEET_READ = 1, SLEET_PROGRAM = 2, SLEET_ERASE = 3 }; /* `job` */
 
 /*
- * Not sound, and refused with 5, beside what document 01 lists: `wp` or `selected` above 1, an instruction that is neither SLEET_IGNORED
- * nor one of the twelve codes named below, a `job` above 3, and SLEET_IDLE with a row or units. Such a state is given back as it came.
+ * A state that came back from a call is sound. One made by hand is sound, on a sound part, if
+ *  - a0, b0 and d0 have no bit outside BCh, 11h and 60h, and c0 none of bits 7 to 4;
+ *  - bit 0 of c0 (OIP) is 1 exactly while `job` is not SLEET_IDLE;
+ *  - `count` is at most 5, `column` at most 4096, `wp` and `selected` are 0 or 1;
+ *  - `instruction` is SLEET_IGNORED or one of the twelve codes named below;
+ *  - `job` is at most 3; SLEET_IDLE has no row and no units; another job has fewer `units` done than its length, and the `row` of a program
+ *    or an erase is below K*N;
+ *  - while OIP is 1 and the chip is selected with a `count` of 1 or more, the instruction is 0Fh, 9Fh, FFh or SLEET_IGNORED.
+ * Any other is refused with 5 and given back as it came.
  */
 typedef struct sleet_state {
     uint8_t a0;           /* register A0h: protection */

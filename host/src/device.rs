@@ -1,5 +1,7 @@
 //! A device that owns its state and memory.
 
+use std::fmt;
+
 use crate::lent::{self, Answer, Memory};
 use crate::{ffi, Geometry, Refusal, State};
 
@@ -7,13 +9,27 @@ use crate::{ffi, Geometry, Refusal, State};
 ///
 /// It is sound from its making on, so its bus events cannot be refused, and a run can be refused
 /// only for its log or its output room.
-#[derive(Clone, Debug, PartialEq, Eq)]
+#[derive(Clone, PartialEq, Eq)]
 pub struct Device {
     geometry: Geometry,
     state: State,
     cells: Vec<u8>,
     cache: Vec<u8>,
     counts: Vec<u8>,
+}
+
+/// Part, state and the lengths of the memory: its bytes would be millions.
+impl fmt::Debug for Device {
+    fn fmt(&self, f: &mut fmt::Formatter<'_>) -> fmt::Result {
+        let bytes = |memory: &[u8]| format!("{} bytes", memory.len());
+        f.debug_struct("Device")
+            .field("geometry", &self.geometry)
+            .field("state", &self.state)
+            .field("cells", &bytes(&self.cells))
+            .field("cache", &bytes(&self.cache))
+            .field("counts", &bytes(&self.counts))
+            .finish()
+    }
 }
 
 impl Device {
@@ -92,6 +108,32 @@ impl Device {
         &self.counts
     }
 
+    /// The cells, to be changed by hand: a fault that no driver makes, an image put in place.
+    pub fn cells_mut(&mut self) -> &mut [u8] {
+        &mut self.cells
+    }
+
+    /// The cache register, to be changed by hand.
+    pub fn cache_mut(&mut self) -> &mut [u8] {
+        &mut self.cache
+    }
+
+    /// The page counts, to be changed by hand.
+    pub fn counts_mut(&mut self) -> &mut [u8] {
+        &mut self.counts
+    }
+
+    /// What [`Device::from_parts`] takes: part, state, cells, cache register and page counts.
+    pub fn into_parts(self) -> (Geometry, State, Vec<u8>, Vec<u8>, Vec<u8>) {
+        (
+            self.geometry,
+            self.state,
+            self.cells,
+            self.cache,
+            self.counts,
+        )
+    }
+
     /// The cells and the page counts, which outlive a loss of power.
     pub fn into_cells_and_counts(self) -> (Vec<u8>, Vec<u8>) {
         (self.cells, self.counts)
@@ -100,6 +142,15 @@ impl Device {
     /// Run a log. The output takes one byte per shift.
     pub fn run(&mut self, log: &[u8], out: &mut [u8]) -> Answer {
         self.call(|geometry, state, memory| lent::run(geometry, state, log, memory, out))
+    }
+
+    /// Run a log, and give its output beside the answer: one byte per shift done.
+    pub fn replay(&mut self, log: &[u8]) -> (Answer, Vec<u8>) {
+        // A shift takes two bytes of the log, so this is room for all of them.
+        let mut out = vec![0xFF; log.len() / 2];
+        let answer = self.run(log, &mut out);
+        out.truncate(answer.written);
+        (answer, out)
     }
 
     /// Run a log, and say whether it was orderly (see [`lent::judge`]).

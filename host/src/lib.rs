@@ -6,8 +6,10 @@
 //! * [`Device`] owns a part's memory and state, and takes transfers, bus events or whole logs.
 //! * [`lent`] has the same calls over borrowed memory, [`raw`] the C interface's own types.
 //! * [`Log`], [`Record`] and [`Records`] write and read bus logs.
-//! * [`paper`] is an independent model of the same part, against which the library is tested and
-//!   measured; [`case`] and [`vectors`] are what both are run on.
+//!
+//! What the machine is and what each refusal means stands in the project's `docs/MACHINE.md`. The
+//! independent model against which the library is tested and measured, `paper`, is no part of this
+//! interface, nor are the cases and vectors that both are run on.
 //!
 //! ```
 //! use sleetanvil::{Device, Geometry};
@@ -23,6 +25,7 @@
 #![deny(unsafe_code)]
 #![warn(missing_docs)]
 
+#[doc(hidden)]
 pub mod case;
 mod convert;
 mod device;
@@ -31,10 +34,12 @@ mod ffi;
 mod geometry;
 pub mod lent;
 mod log;
+#[doc(hidden)]
 #[allow(missing_docs)]
 pub mod paper;
 mod refusal;
 mod state;
+#[doc(hidden)]
 pub mod vectors;
 
 pub use device::Device;

@@ -8,9 +8,10 @@ use crate::ffi;
 /// Why a call stopped or was not begun.
 ///
 /// 1 to 5 are found before anything is done. 6 to 9 stop a run before one record; the records
-/// before it stand.
+/// before it stand. Later versions may have more.
 #[derive(Clone, Copy, Debug, PartialEq, Eq, PartialOrd, Ord, Hash)]
 #[repr(u8)]
+#[non_exhaustive]
 pub enum Refusal {
     /// The geometry is not sound.
     BadPart = 1,

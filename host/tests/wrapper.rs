@@ -96,6 +96,46 @@ fn blank_memory_is_that_of_a_new_device() {
 }
 
 #[test]
+fn a_device_is_taken_apart_and_put_together() {
+    let mut device = ready();
+    device.transfer(&[0x06]);
+    device.cells_mut()[7] = 0x77;
+    device.cache_mut()[3] = 0x33;
+    device.counts_mut()[2] = 4;
+    let copy = device.clone();
+    let (geometry, state, cells, cache, counts) = device.into_parts();
+    assert_eq!((cells[7], cache[3], counts[2]), (0x77, 0x33, 4));
+    let again = Device::from_parts(geometry, state, cells, cache, counts).expect("sound");
+    assert_eq!(again, copy);
+}
+
+#[test]
+fn a_device_is_shown_without_its_bytes() {
+    let device = Device::power_up(Geometry::fm25s005bi3()).expect("sound");
+    let shown = format!("{device:?}");
+    assert!(shown.len() < 1000, "{} bytes", shown.len());
+    assert!(shown.contains("71303168 bytes") && shown.contains("c0: 1"));
+}
+
+#[test]
+fn a_log_is_replayed_with_its_output() {
+    let mut log = Log::new();
+    log.push(Record::Work(20));
+    log.transfer(&[0x9F, 0x00, 0x00, 0x00]);
+    let mut bytes = log.as_bytes().to_vec();
+    let mut device = Device::power_up(Geometry::bench()).expect("sound");
+    let (answer, out) = device.replay(&bytes);
+    assert_eq!((answer.refusal, answer.records), (None, 7));
+    assert_eq!(out, [0xFF, 0xFF, 0x5A, 0x01]);
+
+    bytes.push(0x09);
+    let mut device = Device::power_up(Geometry::bench()).expect("sound");
+    let (answer, out) = device.replay(&bytes);
+    assert_eq!((answer.refusal, answer.records), (Some(Refusal::BadKind), 7));
+    assert_eq!(out.len(), 4);
+}
+
+#[test]
 fn a_protected_device_fails() {
     let mut device = Device::power_up(Geometry::bench()).expect("sound");
     device.work(20);

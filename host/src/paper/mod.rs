@@ -1,4 +1,4 @@
-//! An independent model of document 01, written from the paper alone.
+//! An independent model of document 01, written from the paper and the project's decisions alone.
 //!
 //! It shares no code and no type with the proved library. The tests compare the two on random
 //! contents of all their inputs, sound and not, and the benchmark takes this model as what a good
@@ -8,7 +8,7 @@
 //! unsound ones can be told apart. A sound one is turned into a `Machine`, whose types leave no
 //! room for the unsound, and back into numbers at the end.
 //!
-//! One module a subject, and what a section of the paper says of it stands there alone:
+//! One module per subject, and what a section of the paper says of it stands there alone:
 //!
 //! | module | subject |
 //! |---|---|
