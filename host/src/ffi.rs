@@ -123,72 +123,6 @@ extern "C" {
     fn sleet_units_left(part: Geometry, state: State) -> usize;
     fn sleet_peek(part: Geometry, state: State, cache: *const u8, cache_length: usize)
         -> RawPeeked;
-    fn sleet_transfer(
-        part: Geometry,
-        state: State,
-        di: *const u8,
-        length: usize,
-        cells: *mut u8,
-        cells_length: usize,
-        cache: *mut u8,
-        cache_length: usize,
-        counts: *mut u8,
-        counts_length: usize,
-        out: *mut u8,
-        out_length: usize,
-    ) -> RawAnswer;
-    fn sleet_shifts(
-        part: Geometry,
-        state: State,
-        di: *const u8,
-        length: usize,
-        cells: *mut u8,
-        cells_length: usize,
-        cache: *mut u8,
-        cache_length: usize,
-        counts: *mut u8,
-        counts_length: usize,
-        out: *mut u8,
-        out_length: usize,
-    ) -> RawAnswer;
-    fn sleet_run(
-        part: Geometry,
-        state: State,
-        log: *const u8,
-        log_length: usize,
-        cells: *mut u8,
-        cells_length: usize,
-        cache: *mut u8,
-        cache_length: usize,
-        counts: *mut u8,
-        counts_length: usize,
-        out: *mut u8,
-        out_length: usize,
-    ) -> RawAnswer;
-    fn sleet_judge(
-        part: Geometry,
-        state: State,
-        log: *const u8,
-        log_length: usize,
-        cells: *mut u8,
-        cells_length: usize,
-        cache: *mut u8,
-        cache_length: usize,
-        counts: *mut u8,
-        counts_length: usize,
-        out: *mut u8,
-        out_length: usize,
-    ) -> RawJudged;
-    fn sleet_select(
-        part: Geometry,
-        state: State,
-        cells: *mut u8,
-        cells_length: usize,
-        cache: *mut u8,
-        cache_length: usize,
-        counts: *mut u8,
-        counts_length: usize,
-    ) -> RawAnswer;
     fn sleet_shift(
         part: Geometry,
         state: State,
@@ -201,48 +135,6 @@ extern "C" {
         counts_length: usize,
         out: *mut u8,
         out_length: usize,
-    ) -> RawAnswer;
-    fn sleet_deselect(
-        part: Geometry,
-        state: State,
-        cells: *mut u8,
-        cells_length: usize,
-        cache: *mut u8,
-        cache_length: usize,
-        counts: *mut u8,
-        counts_length: usize,
-    ) -> RawAnswer;
-    fn sleet_work(
-        part: Geometry,
-        state: State,
-        units: u64,
-        cells: *mut u8,
-        cells_length: usize,
-        cache: *mut u8,
-        cache_length: usize,
-        counts: *mut u8,
-        counts_length: usize,
-    ) -> RawAnswer;
-    fn sleet_level(
-        part: Geometry,
-        state: State,
-        level: u8,
-        cells: *mut u8,
-        cells_length: usize,
-        cache: *mut u8,
-        cache_length: usize,
-        counts: *mut u8,
-        counts_length: usize,
-    ) -> RawAnswer;
-    fn sleet_power(
-        part: Geometry,
-        state: State,
-        cells: *mut u8,
-        cells_length: usize,
-        cache: *mut u8,
-        cache_length: usize,
-        counts: *mut u8,
-        counts_length: usize,
     ) -> RawAnswer;
     fn sleet_next(log: *const u8, log_length: usize, place: usize) -> RawFound;
     fn sleet_write(record: RawRecord, log: *mut u8, log_length: usize, place: usize) -> RawWrote;
@@ -344,89 +236,129 @@ pub fn blank(part: Geometry, memory: &mut Memory<'_>) -> u8 {
     }
 }
 
-/// A safe function for a call on bytes: a log, or those of a transfer.
+/// For each call on bytes, a log or those of a transfer, its declaration and a safe function.
 macro_rules! on_bytes {
-    ($name:ident, $call:ident, $answer:ty) => {
-        #[doc = concat!("`", stringify!($call), "`.")]
-        #[inline]
-        pub fn $name(
-            part: Geometry,
-            state: State,
-            bytes: &[u8],
-            memory: &mut Memory<'_>,
-            out: &mut [u8],
-        ) -> $answer {
-            let Memory {
-                cells,
-                cache,
-                counts,
-            } = memory;
-            // SAFETY: each pointer comes with the length of its own slice, and the slices do not overlap.
-            unsafe {
-                $call(
-                    part,
-                    state,
-                    bytes.as_ptr(),
-                    bytes.len(),
-                    cells.as_mut_ptr(),
-                    cells.len(),
-                    cache.as_mut_ptr(),
-                    cache.len(),
-                    counts.as_mut_ptr(),
-                    counts.len(),
-                    out.as_mut_ptr(),
-                    out.len(),
-                )
-            }
+    ($($name:ident, $call:ident, $answer:ty;)*) => {
+        extern "C" {
+            $(fn $call(
+                part: Geometry,
+                state: State,
+                bytes: *const u8,
+                length: usize,
+                cells: *mut u8,
+                cells_length: usize,
+                cache: *mut u8,
+                cache_length: usize,
+                counts: *mut u8,
+                counts_length: usize,
+                out: *mut u8,
+                out_length: usize,
+            ) -> $answer;)*
         }
+
+        $(
+            #[doc = concat!("`", stringify!($call), "`.")]
+            #[inline]
+            pub fn $name(
+                part: Geometry,
+                state: State,
+                bytes: &[u8],
+                memory: &mut Memory<'_>,
+                out: &mut [u8],
+            ) -> $answer {
+                let Memory {
+                    cells,
+                    cache,
+                    counts,
+                } = memory;
+                // SAFETY: each pointer comes with the length of its own slice, and the slices do
+                // not overlap.
+                unsafe {
+                    $call(
+                        part,
+                        state,
+                        bytes.as_ptr(),
+                        bytes.len(),
+                        cells.as_mut_ptr(),
+                        cells.len(),
+                        cache.as_mut_ptr(),
+                        cache.len(),
+                        counts.as_mut_ptr(),
+                        counts.len(),
+                        out.as_mut_ptr(),
+                        out.len(),
+                    )
+                }
+            }
+        )*
     };
 }
 
-on_bytes!(transfer, sleet_transfer, RawAnswer);
-on_bytes!(shifts, sleet_shifts, RawAnswer);
-on_bytes!(run, sleet_run, RawAnswer);
-on_bytes!(judge, sleet_judge, RawJudged);
+on_bytes! {
+    transfer, sleet_transfer, RawAnswer;
+    shifts, sleet_shifts, RawAnswer;
+    run, sleet_run, RawAnswer;
+    judge, sleet_judge, RawJudged;
+}
 
-/// A safe function for an event that takes no output.
-macro_rules! event {
-    ($name:ident, $call:ident $(, $argument:ident: $kind:ty)?) => {
-        #[doc = concat!("`", stringify!($call), "`.")]
-        #[inline]
-        pub fn $name(
-            part: Geometry,
-            state: State,
-            $($argument: $kind,)?
-            memory: &mut Memory<'_>,
-        ) -> RawAnswer {
-            let Memory {
-                cells,
-                cache,
-                counts,
-            } = memory;
-            // SAFETY: each pointer comes with the length of its own slice, and the slices do not
-            // overlap.
-            unsafe {
-                $call(
-                    part,
-                    state,
-                    $($argument,)?
-                    cells.as_mut_ptr(),
-                    cells.len(),
-                    cache.as_mut_ptr(),
-                    cache.len(),
-                    counts.as_mut_ptr(),
-                    counts.len(),
-                )
-            }
+/// For each event that takes no output, its declaration and a safe function.
+macro_rules! events {
+    ($($name:ident, $call:ident $(, $argument:ident: $kind:ty)?;)*) => {
+        extern "C" {
+            $(fn $call(
+                part: Geometry,
+                state: State,
+                $($argument: $kind,)?
+                cells: *mut u8,
+                cells_length: usize,
+                cache: *mut u8,
+                cache_length: usize,
+                counts: *mut u8,
+                counts_length: usize,
+            ) -> RawAnswer;)*
         }
+
+        $(
+            #[doc = concat!("`", stringify!($call), "`.")]
+            #[inline]
+            pub fn $name(
+                part: Geometry,
+                state: State,
+                $($argument: $kind,)?
+                memory: &mut Memory<'_>,
+            ) -> RawAnswer {
+                let Memory {
+                    cells,
+                    cache,
+                    counts,
+                } = memory;
+                // SAFETY: each pointer comes with the length of its own slice, and the slices do
+                // not overlap.
+                unsafe {
+                    $call(
+                        part,
+                        state,
+                        $($argument,)?
+                        cells.as_mut_ptr(),
+                        cells.len(),
+                        cache.as_mut_ptr(),
+                        cache.len(),
+                        counts.as_mut_ptr(),
+                        counts.len(),
+                    )
+                }
+            }
+        )*
     };
 }
 
-event!(select, sleet_select);
-event!(deselect, sleet_deselect);
-event!(work, sleet_work, units: u64);
-event!(level, sleet_level, level: u8);
-event!(power, sleet_power);
+events! {
+    select, sleet_select;
+    deselect, sleet_deselect;
+    work, sleet_work, units: u64;
+    level, sleet_level, level: u8;
+    power, sleet_power;
+}
 
 /// `sleet_shift`.
 #[inline]

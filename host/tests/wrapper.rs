@@ -131,7 +131,10 @@ fn a_log_is_replayed_with_its_output() {
     bytes.push(0x09);
     let mut device = Device::power_up(Geometry::bench()).expect("sound");
     let (answer, out) = device.replay(&bytes);
-    assert_eq!((answer.refusal, answer.records), (Some(Refusal::BadKind), 7));
+    assert_eq!(
+        (answer.refusal, answer.records),
+        (Some(Refusal::BadKind), 7)
+    );
     assert_eq!(out.len(), 4);
 }
 

@@ -65,7 +65,7 @@ fn check(geometry: &Geometry, buffers: &mut Buffers, naive: &mut Naive, di: &[u8
 /// A poll of the status register, event by event.
 fn events(geometry: &Geometry, buffers: &mut Buffers, naive: &mut Naive) -> Times {
     let (mut first, mut second) = (idle(), idle());
-    let [library, model, naive] = best(
+    let times = best(
         [
             Box::new(|buffers| {
                 let (mut memory, out) = buffers.lent();
@@ -93,6 +93,11 @@ fn events(geometry: &Geometry, buffers: &mut Buffers, naive: &mut Naive) -> Time
         buffers,
     );
     assert_eq!(first, second);
+    with_naive(times)
+}
+
+/// The times of library, model and naive model.
+fn with_naive([library, model, naive]: [f64; 3]) -> Times {
     Times {
         library,
         model,
@@ -104,7 +109,7 @@ fn events(geometry: &Geometry, buffers: &mut Buffers, naive: &mut Naive) -> Time
 /// One transfer.
 fn transfers(geometry: &Geometry, buffers: &mut Buffers, naive: &mut Naive, di: &[u8]) -> Times {
     let (mut first, mut second) = (idle(), idle());
-    let [library, model, naive] = best(
+    let times = best(
         [
             Box::new(|buffers| {
                 let (mut memory, out) = buffers.lent();
@@ -118,12 +123,7 @@ fn transfers(geometry: &Geometry, buffers: &mut Buffers, naive: &mut Naive, di: 
         buffers,
     );
     assert_eq!(first, second);
-    Times {
-        library,
-        model,
-        naive: Some(naive),
-        limit: None,
-    }
+    with_naive(times)
 }
 
 /// A log judged.
