@@ -28,7 +28,7 @@ impl Progress {
 
     /// So many bytes of the log are done.
     pub fn at(&mut self, done: u64) {
-        let due = self.last.map_or(true, |last| last.elapsed() >= PAUSE);
+        let due = self.last.is_none_or(|last| last.elapsed() >= PAUSE);
         if self.wanted && due && is_long(done, self.total) {
             self.last = Some(Instant::now());
             write(&format!("\r\x1b[K{}", text(done, self.total)));
