@@ -2,20 +2,25 @@
 
 mod support;
 
-use std::fs;
-use std::io::Write;
+use std::fs::{self, Permissions};
+use std::io::{BufRead, BufReader, Write};
+use std::os::unix::fs::{symlink, PermissionsExt};
+use std::os::unix::net::UnixListener;
 use std::path::{Path, PathBuf};
-use std::process::{Output, Stdio};
+use std::process::{Child, Command, Output, Stdio};
 
-use sleetanvil::{Log, Record};
+use sleetanvil::{Device, Geometry, Log, Record, Records};
+use support::generate::Generator;
 
 /// The log of document 01.
 const REPLAY: [u8; 16] = [
     0x04, 0x13, 0x00, 0x01, 0x02, 0x0F, 0x02, 0xC0, 0x02, 0x00, 0x04, 0x01, 0x00, 0x02, 0x00, 0x03,
 ];
 
-/// The length of a bench part's image: head, cells, page counts.
-const BENCH_IMAGE: usize = 32 + 640 + 32;
+/// The length of a bench part's image of version 1: head, cells, page counts.
+const OLD_IMAGE: usize = 32 + 640 + 32;
+/// And of version 2: state and cache register too.
+const BENCH_IMAGE: usize = OLD_IMAGE + 24 + 20;
 
 /// A folder of a test's own, gone when the test is over.
 struct Folder {
@@ -64,18 +69,22 @@ fn sleetanvil(args: &[&str]) -> Output {
 }
 
 fn with_input(args: &[&str], input: &[u8]) -> Output {
-    let mut child = support::program(Path::new(env!("CARGO_BIN_EXE_sleetanvil")))
-        .args(args)
-        .stdin(Stdio::piped())
-        .stdout(Stdio::piped())
-        .stderr(Stdio::piped())
-        .spawn()
-        .expect("the program starts");
+    let mut child = start(args);
     let mut stdin = child.stdin.take().expect("its standard input");
     // A program that does not want the input may be gone already.
     let _ = stdin.write_all(input);
     drop(stdin);
     child.wait_with_output().expect("the program ends")
+}
+
+fn start(args: &[&str]) -> Child {
+    support::program(Path::new(env!("CARGO_BIN_EXE_sleetanvil")))
+        .args(args)
+        .stdin(Stdio::piped())
+        .stdout(Stdio::piped())
+        .stderr(Stdio::piped())
+        .spawn()
+        .expect("the program starts")
 }
 
 #[track_caller]
@@ -114,7 +123,17 @@ fn program(row: u16, byte: u8) -> Log {
 fn help_and_version() {
     for args in [&["--help"][..], &["-h"], &["help"], &["replay", "--help"]] {
         let help = succeeds(&sleetanvil(args));
-        for word in ["usage:", "--image", "--save", "--trace", "SLEETIMG"] {
+        for word in [
+            "usage:",
+            "--image",
+            "--power-up",
+            "--save",
+            "--out",
+            "--expect",
+            "--trace",
+            "--judge",
+            "SLEETIMG",
+        ] {
             assert!(help.contains(word), "{word}");
         }
     }
@@ -137,6 +156,11 @@ fn a_bad_command_line() {
         (&["replay", "--part"], "--part needs a value"),
         (&["replay", "--bytes", "many", "a"], "not a number: many"),
         (&["replay", "--save", "a", "--save", "b", "c"], "twice"),
+        (&["replay", "--save", "a", "--save=b", "c"], "twice"),
+        (&["replay", "--trace=yes", "a"], "--trace takes no value"),
+        (&["replay", "--fast=yes", "a"], "no such option: --fast"),
+        (&["replay", "--=a", "a"], "-- takes no value"),
+        (&["replay", "--bytes=", "a"], "not a number: "),
     ] {
         fails(&sleetanvil(args), 2, message);
     }
@@ -156,32 +180,163 @@ fn a_good_log() {
 }
 
 #[test]
+fn options_in_other_forms() {
+    let folder = Folder::new("options_in_other_forms");
+    let log = folder.write("a=b", &REPLAY);
+    let (image, save) = (
+        folder.file("image"),
+        format!("--save={}", folder.file("image")),
+    );
+    for part in ["--part=bench", "--part=Bench", "--part=BENCH"] {
+        assert_eq!(
+            succeeds(&sleetanvil(&["replay", part, &save, &log])),
+            "end 0 8\n"
+        );
+        assert_eq!(fs::read(&image).expect("the image").len(), BENCH_IMAGE);
+    }
+    let args = ["replay", "--part", "FM25S005BI3", &save, "--", &log];
+    assert_eq!(succeeds(&sleetanvil(&args)), "end 0 8\n");
+    assert!(fs::read(&image).expect("the image").len() > 70_000_000);
+    let strange = folder.write("--part=x", &REPLAY);
+    assert!(strange.ends_with("/--part=x"));
+    let output = support::program(Path::new(env!("CARGO_BIN_EXE_sleetanvil")))
+        .args(["replay", "--", "--part=x"])
+        .current_dir(&folder.path)
+        .output();
+    assert_eq!(succeeds(&output.expect("the program")), "end 0 8\n");
+}
+
+/// A log that is longer than a piece, whose records straddle the pieces.
+#[test]
 fn a_long_log() {
-    let log = REPLAY.repeat(5000);
+    let folder = Folder::new("a_long_log");
+    let once = [&REPLAY[..], &[0x04, 0x01, 0x00]].concat();
+    let log = once.repeat(20_000);
+    let file = folder.write("log", &log);
+    let mut device = Device::power_up(Geometry::bench()).expect("a device");
+    let mut out = vec![0; log.len() / 2];
+    let answer = device.run(&log, &mut out);
+    assert_eq!((answer.refusal, answer.records), (None, 180_000));
+    let wanted = folder.write("wanted", &out[..answer.written]);
+    for from in [&file, "-"] {
+        let args = ["replay", "--expect", &wanted, from];
+        assert_eq!(succeeds(&with_input(&args, &log)), "end 0 180000\n");
+    }
+    let trace = succeeds(&sleetanvil(&[
+        "replay", "--trace", "--expect", &wanted, &file,
+    ]));
+    assert!(trace.ends_with("\nend 0 180000\n"));
+    assert_eq!(trace.lines().count(), 80_001);
+
+    // A refusal far behind the first piece.
+    for (end, number, fault) in [
+        (&[0x00][..], 6, "the byte is 00h"),
+        (&[0x04, 0x01], 7, "nothing comes behind 04h 01h"),
+        (&[0x05, 0xC0], 8, "the level is C0h"),
+    ] {
+        let output = with_input(&["replay", "-"], &[&log, end].concat());
+        fails(&output, 1, "byte 380000, record 180000: ");
+        fails(&output, 1, &format!("(refusal {number}): {fault}"));
+        assert_eq!(text(&output.stdout), format!("end {number} 180000\n"));
+    }
+}
+
+#[track_caller]
+fn judged(args: &[&str], log: &[u8], status: i32, line: &str) {
+    let output = with_input(&[&["replay", "--judge"], args, &["-"]].concat(), log);
     assert_eq!(
-        succeeds(&with_input(&["replay", "-"], &log)),
-        "end 0 40000\n"
+        output.status.code(),
+        Some(status),
+        "{}",
+        text(&output.stderr)
+    );
+    assert_eq!(text(&output.stdout).lines().next(), Some(line));
+    assert_eq!(
+        output.stderr.is_empty(),
+        status != 1,
+        "{}",
+        text(&output.stderr)
     );
 }
 
 #[test]
 fn a_judgement() {
-    let orderly = with_input(&["replay", "--judge", "-"], &REPLAY);
-    assert_eq!(succeeds(&orderly), "orderly\nend 0 8\n");
-    let mut early = Log::new();
-    early.transfer(&[0x06]);
-    early.push(Record::Work(20));
-    let not = with_input(&["replay", "--judge", "-"], early.as_bytes());
-    assert_eq!(succeeds(&not), "not orderly\nend 0 4\n");
+    let output = with_input(&["replay", "--judge", "-"], &REPLAY);
+    assert_eq!(succeeds(&output), "orderly\nend 0 8\n");
+    judged(&[], &[0x04, 0x14, 0x00], 0, "orderly");
+    judged(&[], &[], 3, "not orderly: it ends while busy");
+
+    let transfer = |bytes: &[u8]| {
+        let mut log = Log::new();
+        log.transfer(bytes);
+        log.push(Record::Work(u16::MAX));
+        log
+    };
+    for code in [0x06, 0x04, 0x1F, 0x13, 0x03, 0x0B, 0x02, 0x84, 0x10, 0xD8] {
+        let line = format!("not orderly: record 1, {code:02X}h begun while busy");
+        judged(&[], transfer(&[code]).as_bytes(), 3, &line);
+    }
+    for bytes in [
+        &[0x0F, 0xC0, 0x00][..],
+        &[0x9F],
+        &[0x6B],
+        &[0xFF, 0x00],
+        &[],
+    ] {
+        judged(&[], transfer(bytes).as_bytes(), 0, "orderly");
+    }
+    let line = "not orderly: record 2, a reset took effect while busy";
+    judged(&[], transfer(&[0xFF]).as_bytes(), 3, line);
+    let line = "not orderly: record 1, power lost while busy";
+    judged(&[], &[0x04, 0x13, 0x00, 0x06, 0x04, 0x14, 0x00], 3, line);
+    judged(
+        &[],
+        &[0x04, 0x14, 0x00, 0x06, 0x04, 0x14, 0x00],
+        0,
+        "orderly",
+    );
+
+    // A log that is refused: the verdict is of the records done, the status that of a refusal.
+    judged(&[], &[0x04, 0x14, 0x00, 0x07], 1, "orderly");
+    judged(
+        &[],
+        &[0x04, 0x13, 0x00, 0x07],
+        1,
+        "not orderly: it ends while busy",
+    );
+}
+
+/// Of a device that was saved busy a log is not orderly, whatever it does.
+#[test]
+fn a_judgement_of_the_start() {
+    let folder = Folder::new("a_judgement_of_the_start");
+    let (image, saved) = (folder.file("image"), folder.file("saved"));
+    let line = "not orderly: it ends while busy";
+    judged(&["--save", &image], &[0x04, 0x01, 0x00], 3, line);
+    let idle = [0x04, 0x14, 0x00];
+    let line = "not orderly: it begins while busy, and not at power-up";
+    judged(&["--image", &image, "--save", &saved], &idle, 3, line);
+    judged(&["--image", &image, "--power-up"], &idle, 0, "orderly");
+    // What is not orderly was saved all the same.
+    judged(&["--image", &saved], &[], 0, "orderly");
+    // Power-up with WP# low is power-up.
+    let low = [0x05, 0x00];
+    judged(
+        &["--save", &image],
+        &low,
+        3,
+        "not orderly: it ends while busy",
+    );
+    judged(&["--image", &image], &idle, 0, "orderly");
 }
 
 #[test]
 fn a_trace() {
     let traced = with_input(&["replay", "--trace", "-"], &REPLAY);
     let expected = "          \
-        0  work of 19 units: read of row 0, 19 of 20 units done\n          \
-        5  work of 1 unit: read of row 0 ends; status 01h -> 00h (idle)\n        \
-        1-7  0Fh Get Feature C0h -> 01h 00h (busy, then idle)\n\
+        0  work of 19 units: read of row 0, 19 of 20 units done\n        \
+        1-7  0Fh Get Feature C0h -> 01h 00h (busy, then idle)\n          \
+        5      work of 1 unit: read of row 0 ends; status 01h -> 00h (idle)\n\
         end 0 8\n";
     assert_eq!(succeeds(&traced), expected);
 }
@@ -203,6 +358,13 @@ fn a_trace_of_much() {
     log.transfer(&[0xFF]);
     log.push(Record::Work(1));
     log.transfer(&[0x0B, 0x00, 0x13, 0x00, 0x00, 0x00, 0x00]);
+    log.transfer(&[0x03, 0xFF, 0xFF, 0x00, 0x00]);
+    log.transfer(&[0x02, 0x00, 0x12, 0x01, 0x02, 0x03]);
+    log.transfer(&[0x13, 0x00, 0x00, 0x20]);
+    log.push(Record::Work(20));
+    log.transfer(&[0x1F]);
+    log.transfer(&[0x1F, 0xC0, 0x00]);
+    log.transfer(&[0x1F, 0x55, 0x00]);
     log.transfer(&[0x1F, 0xA0, 0xB8]);
     log.transfer(&[0x06]);
     log.transfer(&[0x10, 0x00, 0x00, 0x00]);
@@ -222,21 +384,31 @@ fn a_trace_of_much() {
         "shift 06h -> FFh: not selected, nothing happens",
         "deselect: not selected, nothing happens",
         "6Bh sent 00h; ignored: unknown instruction",
-        "06h Write Enable and 00h: nothing, 2 bytes and not 1",
-        "10h Program Execute row 5: nothing, WEL is 0",
-        "D8h Block Erase row 32: E_FAIL, the row is outside the array; status 02h -> 04h (E_FAIL)",
-        "D8h Block Erase row 5: erase of row 5 begins, 80 units; status 06h -> 01h (busy)",
+        "06h Write Enable and 00h: nothing happens, shifted 2 bytes, needs 1",
+        "1Fh Set Feature: nothing happens, shifted 1 byte, needs 3",
+        "10h Program Execute row 5: nothing happens, WEL is 0",
+        "D8h Block Erase row 32 (outside the array): E_FAIL, the row is outside the array; \
+         status 02h -> 04h (E_FAIL)",
+        "D8h Block Erase row 5 (block 1): erase of block 1 begins, 80 units; \
+         status 06h -> 01h (busy)",
         "06h Write Enable; ignored: busy at its first byte",
-        "work of 30 units: erase of row 5, 30 of 80 units done",
-        "FFh Reset: erase of row 5 cut after 30 of 80 units; status 01h -> 00h (idle)",
+        "work of 30 units: erase of block 1, 30 of 80 units done",
+        "FFh Reset: erase of block 1 cut after 30 of 80 units; status 01h -> 00h (idle)",
         "work of 1 unit: the array is idle, nothing happens",
-        "0Bh Fast Read From Cache column 19 -> FFh FFh .. 3 bytes in all",
+        "0Bh Fast Read From Cache column 19 -> FFh FFh .. 3 bytes in all (2 past the page)",
+        "03h Read From Cache column 4095 (outside the page) -> FFh (1 past the page)",
+        "02h Program Load column 18 <- 01h 02h .. 3 bytes in all (1 past the page, dropped)",
+        "13h Page Read row 32 (outside the array): read of row 32 begins, 20 units, all FFh; \
+         status 00h -> 01h (busy)",
+        "1Fh Set Feature C0h = 00h: nothing happens, C0h cannot be written",
+        "1Fh Set Feature 55h = 00h: nothing happens, there is no register at 55h",
         "10h Program Execute row 0: P_FAIL, block 0 is protected; status 02h -> 08h (P_FAIL)",
         "WP# low",
-        "1Fh Set Feature A0h = 00h: nothing, BRWD is 1 and WP# low",
+        "1Fh Set Feature A0h = 00h: nothing happens, BRWD is 1 and WP# is low",
         "9Fh Read ID -> 5Ah 01h",
         "select without a byte; cut by power loss",
-        "power lost and back: read of row 0 begins; status 08h -> 01h (busy)",
+        "power lost and back: read of row 0 begins; reset to A0h 38h, B0h 10h, D0h 40h and a \
+         cache register of FFh; WP# stays low; status 08h -> 01h (busy)",
     ] {
         let found = trace.lines().any(|traced| traced.get(13..) == Some(line));
         assert!(found, "no line `{line}` in\n{trace}");
@@ -298,9 +470,10 @@ fn a_bad_log_leaves_the_image_as_it_was() {
     let before = fs::read(&image).expect("the image");
 
     for (end, refusal) in [
-        (&[0x09][..], "(refusal 6)"),
-        (&[0x04, 0x01], "(refusal 7)"),
-        (&[0x05, 0x02], "(refusal 8)"),
+        (&[0x09][..], "(refusal 6): the byte is 09h; "),
+        (&[0x02], "(refusal 7): nothing comes behind 02h; "),
+        (&[0x04, 0x01], "(refusal 7): nothing comes behind 04h 01h; "),
+        (&[0x05, 0x02], "(refusal 8): the level is 02h; "),
     ] {
         let begun = program(6, 0x00);
         let records = begun.records().count();
@@ -328,14 +501,21 @@ fn a_bad_image() {
     let good = fs::read(&image).expect("the image");
 
     type Change = fn(&mut Vec<u8>);
-    let changes: [(Change, &str); 7] = [
+    let changes: [(Change, &str); 14] = [
         (|bytes| bytes.clear(), "not an image file"),
         (|bytes| bytes[0] = b'X', "not an image file"),
         (|bytes| bytes.truncate(20), "ends inside its head"),
-        (|bytes| bytes[8] = 2, "version 2"),
+        (|bytes| bytes[8] = 3, "version 3"),
+        (|bytes| bytes[8] = 1, "has 748 bytes"),
         (|bytes| bytes[12] = 17, "no part that is known"),
         (|bytes| bytes[30] = 1, "no part that is known"),
-        (|bytes| bytes.push(0), "has 705 bytes"),
+        (|bytes| bytes.push(0), "has 749 bytes"),
+        (|bytes| bytes.truncate(OLD_IMAGE), "has 704 bytes"),
+        (|bytes| bytes[OLD_IMAGE + 2] = 0, "the state is not sound"),
+        (|bytes| bytes[OLD_IMAGE + 4] = 2, "the state is not sound"),
+        (|bytes| bytes[OLD_IMAGE + 11] = 1, "has to be 0"),
+        (|bytes| bytes[OLD_IMAGE + 18] = 1, "has to be 0"),
+        (|bytes| bytes[OLD_IMAGE + 23] = 1, "the state is not sound"),
     ];
     for (change, message) in changes {
         let mut bytes = good.clone();
@@ -365,4 +545,472 @@ fn files_that_are_not_there() {
     let args = ["replay", "--save", &save, "-"];
     fails(&with_input(&args, &REPLAY), 1, "cannot save");
     assert!(folder.names().is_empty());
+}
+
+/// The mode of a file.
+fn mode(file: &str) -> u32 {
+    let found = fs::metadata(file).expect("the file");
+    found.permissions().mode() & 0o7777
+}
+
+#[test]
+fn a_file_keeps_its_mode() {
+    let folder = Folder::new("a_file_keeps_its_mode");
+    let (image, usual) = (folder.file("image"), folder.write("usual", &[]));
+    let save = ["replay", "--save", &image, "-"];
+    succeeds(&with_input(&save, &REPLAY));
+    assert_eq!(mode(&image), mode(&usual));
+    for bits in [0o600, 0o640, 0o664, 0o755] {
+        fs::set_permissions(&image, Permissions::from_mode(bits)).expect("a mode");
+        succeeds(&with_input(&save, &[]));
+        let saved = fs::read(&image).expect("the image");
+        succeeds(&with_input(&save, &REPLAY));
+        assert_ne!(fs::read(&image).expect("the image"), saved);
+        assert_eq!(mode(&image), bits);
+    }
+    assert_eq!(folder.names(), ["image", "usual"]);
+}
+
+#[test]
+fn links_are_followed() {
+    let folder = Folder::new("links_are_followed");
+    for name in ["here", "there"] {
+        fs::create_dir(folder.file(name)).expect("a folder");
+    }
+    let image = folder.file("there/image");
+    symlink("../there/next", folder.file("here/link")).expect("a link");
+    symlink("image", folder.file("there/next")).expect("a link");
+    let link = folder.file("here/link");
+    let args = ["replay", "--save", &link, "-"];
+    // First the links lead to nothing, then to a file.
+    for log in [&[][..], &REPLAY] {
+        succeeds(&with_input(&args, log));
+        assert!(fs::symlink_metadata(&image).expect("the image").is_file());
+        for link in [&link, &folder.file("there/next")] {
+            assert!(fs::symlink_metadata(link).expect("a link").is_symlink());
+        }
+    }
+    let plain = folder.file("plain");
+    succeeds(&with_input(&["replay", "--save", &plain, "-"], &REPLAY));
+    assert_eq!(
+        fs::read(&plain).expect("a file"),
+        fs::read(&image).expect("the image")
+    );
+    assert_eq!(folder.names(), ["here", "plain", "there"]);
+    assert_eq!(
+        fs::read_dir(folder.file("there"))
+            .expect("a folder")
+            .count(),
+        2
+    );
+
+    symlink("round", folder.file("round")).expect("a link");
+    let args = ["replay", "--save", &folder.file("round"), "-"];
+    fails(
+        &with_input(&args, &REPLAY),
+        1,
+        "cannot save: too many links",
+    );
+}
+
+#[test]
+fn what_is_not_a_file_is_not_replaced() {
+    let folder = Folder::new("not_a_file");
+    let fifo = folder.file("fifo");
+    let made = Command::new("mkfifo").arg(&fifo).status();
+    assert!(made.expect("mkfifo").success());
+    let socket = folder.file("socket");
+    let _held = UnixListener::bind(&socket).expect("a socket");
+    let inner = folder.file("folder");
+    fs::create_dir(&inner).expect("a folder");
+    symlink(&fifo, folder.file("link")).expect("a link");
+    let (link, missing) = (folder.file("link"), folder.file("no/image"));
+    let names = folder.names();
+    for (path, message) in [
+        (&fifo[..], "it is a FIFO, not a file"),
+        (&link, "it is a FIFO, not a file"),
+        (&socket, "it is a socket, not a file"),
+        (&inner, "it is a folder, not a file"),
+        ("/dev/null", "it is a device, not a file"),
+        (&missing, "there is no folder"),
+    ] {
+        // It is refused before the replay, so there is no trace and no output.
+        let out = folder.file("out");
+        let args = ["replay", "--save", path, "--trace", "--out", &out, "-"];
+        let output = with_input(&args, &REPLAY);
+        fails(&output, 1, message);
+        fails(&output, 1, &format!("{path}: cannot save: "));
+        assert!(output.stdout.is_empty());
+        assert_eq!(folder.names(), names);
+    }
+}
+
+/// A log cut in two at any record, with the device saved between, does what the whole does.
+#[test]
+fn a_device_is_saved_and_goes_on() {
+    let folder = Folder::new("a_device_is_saved_and_goes_on");
+    let mut log = program(5, 0xA5);
+    log.transfer(&[0x06]);
+    log.transfer(&[0xD8, 0x00, 0x00, 0x00]);
+    log.push(Record::Work(33));
+    log.push(Record::Level(false));
+    log.extend([Record::Select, Record::Shift(0x0F), Record::Shift(0xC0)]);
+    log.extend([Record::Shift(0), Record::Work(60), Record::Shift(0)]);
+    log.push(Record::Deselect);
+    log.transfer(&[0x13, 0x00, 0x00, 0x05]);
+    log.push(Record::Work(20));
+    log.transfer(&[0x0B, 0x00, 0x12, 0x00, 0x00, 0x00, 0x00]);
+    log.transfer(&[0x84, 0x00, 0x11, 0x01, 0x02, 0x03, 0x04, 0x05]);
+    log.transfer(&[0x10, 0x00, 0x00, 0x05, 0x00, 0x00]);
+    log.transfer(&[0x6B, 0x00]);
+    log.push(Record::Power);
+    log.push(Record::Select);
+    cut_everywhere(&folder, log.as_bytes());
+    let log = Generator::new(0xC07, 0).sound_log(&Geometry::bench(), 8);
+    assert!(log.len() > 30, "{log:?}");
+    cut_everywhere(&folder, &log);
+}
+
+fn cut_everywhere(folder: &Folder, log: &[u8]) {
+    let file = |name: &str| folder.file(name);
+    let read = |name: &str| fs::read(folder.file(name)).expect("a file");
+    let (image, out, between, last) = (file("image"), file("out"), file("between"), file("last"));
+    let args = ["replay", "--trace", "--save", &image, "--out", &out, "-"];
+    let whole = succeeds(&with_input(&args, log));
+    let (image, out) = (read("image"), read("out"));
+    let mut records = Records::new(log);
+    loop {
+        let (first, second) = log.split_at(records.place());
+        let (before, after) = (file("before"), file("after"));
+        let args = [
+            "replay", "--trace", "--save", &between, "--out", &before, "-",
+        ];
+        let one = succeeds(&with_input(&args, first));
+        let args = ["--image", &between, "--save", &last, "--out", &after, "-"];
+        let args = [&["replay", "--trace"], &args[..]].concat();
+        let two = succeeds(&with_input(&args, second));
+        let place = records.place();
+        assert!(read("last") == image, "cut at byte {place}");
+        assert_eq!(
+            [read("before"), read("after")].concat(),
+            out,
+            "cut at byte {place}"
+        );
+
+        let mut device = Device::power_up(Geometry::bench()).expect("a device");
+        let answer = device.run(first, &mut vec![0; first.len() / 2]);
+        assert_eq!(answer.refusal, None);
+        if !device.state().is_selected() {
+            let lines = [texts(&one), texts(&two)].concat();
+            assert_eq!(lines, texts(&whole), "cut at byte {place}");
+        } else if !second.is_empty() {
+            let line = texts(&two)[0];
+            assert!(line.starts_with("begun before the log: "), "{line}");
+        }
+        if records.next().is_none() {
+            return;
+        }
+    }
+}
+
+/// The lines of a trace without their records, and without the last.
+fn texts(trace: &str) -> Vec<&str> {
+    let lines = trace.lines().filter(|line| !line.starts_with("end "));
+    lines.map(|line| &line[13..]).collect()
+}
+
+#[test]
+fn a_transfer_begun_before_the_log() {
+    let folder = Folder::new("a_transfer_begun_before_the_log");
+    let image = folder.file("image");
+    let ready = [0x04, 0x14, 0x00];
+    for (first, second, line) in [
+        (
+            &[0x0B, 0x00, 0x12][..],
+            &[0x00, 0x00, 0x00, 0x00][..],
+            "03h Read From Cache column 18 -> FFh FFh FFh (1 past the page)",
+        ),
+        (
+            &[0x03, 0x00, 0x10, 0x00, 0x00, 0x00],
+            &[0x00, 0x00, 0x00],
+            "03h Read From Cache column 16 -> FFh FFh FFh (1 past the page)",
+        ),
+        (
+            &[0x02, 0x00, 0x10, 0x01, 0x02],
+            &[0x03, 0x04, 0x05],
+            "02h Program Load column 16 <- 03h 04h 05h (1 past the page, dropped)",
+        ),
+        (&[0x0F], &[0xC0, 0x00], "0Fh Get Feature C0h -> 00h (idle)"),
+        (&[0x0F, 0xA0, 0x00], &[0x00], "0Fh Get Feature A0h -> 38h"),
+        (
+            &[0x1F, 0xA0],
+            &[0x00],
+            "1Fh Set Feature A0h = 00h: 38h -> 00h",
+        ),
+        (
+            &[0x13, 0x00, 0x00, 0x00, 0x00, 0x00],
+            &[0x07],
+            "13h Page Read row 0 and 07h: nothing happens, shifted 5 bytes or more, needs 4",
+        ),
+        (&[0x6B], &[0x01], "an ignored transfer with 01h"),
+        (&[], &[0x06], "06h Write Enable; status 00h -> 02h (WEL)"),
+        (&[], &[], "select without a byte"),
+    ] {
+        let mut log = Log::new();
+        log.push(Record::Select);
+        log.extend(first.iter().copied().map(Record::Shift));
+        let log = [&ready, log.as_bytes()].concat();
+        succeeds(&with_input(&["replay", "--save", &image, "-"], &log));
+        let mut log: Log = second.iter().copied().map(Record::Shift).collect();
+        log.push(Record::Deselect);
+        let args = ["replay", "--trace", "--image", &image, "-"];
+        let trace = succeeds(&with_input(&args, log.as_bytes()));
+        assert_eq!(texts(&trace), [format!("begun before the log: {line}")]);
+    }
+}
+
+#[test]
+fn an_old_image_and_power_up() {
+    let folder = Folder::new("an_old_image_and_power_up");
+    let image = folder.file("image");
+    // It ends in the middle of an erase, with WP# low.
+    let mut log = program(5, 0xA5);
+    log.transfer(&[0x06]);
+    log.transfer(&[0xD8, 0x00, 0x00, 0x05]);
+    log.push(Record::Work(22));
+    log.push(Record::Level(false));
+    succeeds(&with_input(
+        &["replay", "--save", &image, "-"],
+        log.as_bytes(),
+    ));
+    let saved = fs::read(&image).expect("the image");
+    let mut bytes = saved[..OLD_IMAGE].to_vec();
+    bytes[8] = 1;
+    let old = folder.write("old", &bytes);
+
+    let end = |args: &[&str]| {
+        let last = folder.file("last");
+        let args = [&["replay", "--trace", "--save", &last], args, &["-"]].concat();
+        let trace = succeeds(&with_input(&args, &[0x04, 0x01, 0x00]));
+        (trace, fs::read(&last).expect("the image"))
+    };
+    let on = end(&["--image", &image]);
+    assert!(
+        on.0.contains("erase of block 1, 23 of 80 units done"),
+        "{}",
+        on.0
+    );
+    let up = end(&["--image", &image, "--power-up"]);
+    assert!(
+        up.0.contains("read of row 0, 1 of 20 units done"),
+        "{}",
+        up.0
+    );
+    assert_eq!(up.1[32..OLD_IMAGE], saved[32..OLD_IMAGE]);
+    assert_eq!(up.1[OLD_IMAGE + 4], 1);
+    assert_eq!(end(&["--image", &old]), up);
+    assert_eq!(end(&["--image", &old, "--power-up"]), up);
+    assert_eq!(end(&["--power-up"]), end(&[]));
+}
+
+#[test]
+fn the_bytes_on_do() {
+    let folder = Folder::new("the_bytes_on_do");
+    let out = folder.write("out", b"old and longer than the new");
+    for trace in [&[][..], &["--trace"]] {
+        let args = [&["replay", "--out", &out, "-"], trace].concat();
+        succeeds(&with_input(&args, &REPLAY));
+        assert_eq!(
+            fs::read(&out).expect("the output"),
+            [0xFF, 0xFF, 0x01, 0x00]
+        );
+        // Of a log that is refused, the bytes of the records done.
+        let bad = [&REPLAY[..10], &[0x07]].concat();
+        fails(&with_input(&args, &bad), 1, "(refusal 6)");
+        assert_eq!(fs::read(&out).expect("the output"), [0xFF, 0xFF, 0x01]);
+    }
+    let args = ["replay", "--out", "/dev/full", "-"];
+    fails(&with_input(&args, &REPLAY), 1, "/dev/full: ");
+    let long = REPLAY.repeat(20_000);
+    fails(&with_input(&args, &long), 1, "/dev/full: ");
+    let args = ["replay", "--out", &folder.file("no/out"), "-"];
+    fails(&with_input(&args, &REPLAY), 1, "no/out: ");
+}
+
+#[test]
+fn the_bytes_expected() {
+    let folder = Folder::new("the_bytes_expected");
+    let (out, image) = (folder.file("out"), folder.file("image"));
+    let right = [0xFF, 0xFF, 0x01, 0x00];
+    let in_transfer = "in the transfer of record 1 (0Fh Get Feature)";
+    for (expected, record, message) in [
+        (&right[..], 0, String::new()),
+        (
+            &[0xFF, 0xFE, 0x01, 0x00],
+            3,
+            "DO is FFh, and byte 1 of ".into(),
+        ),
+        (
+            &[0xFF, 0xFF, 0x01, 0x01],
+            6,
+            "DO is 00h, and byte 3 of ".into(),
+        ),
+        (&[0xFF, 0xFF], 4, "DO is 01h, and ".into()),
+        (&[], 2, "DO is FFh, and ".into()),
+        (
+            &[0xFF, 0xFF, 0x01, 0x00, 0x77],
+            0,
+            "ended with 4 bytes on DO".into(),
+        ),
+    ] {
+        let wanted = folder.write("wanted", expected);
+        for trace in [&[][..], &["--trace"], &["--judge"]] {
+            let args = ["--expect", &wanted, "--out", &out, "--save", &image, "-"];
+            let args = [&["replay"], trace, &args].concat();
+            let output = with_input(&args, &REPLAY);
+            let kept = fs::read(&out).expect("the output");
+            if message.is_empty() {
+                assert!(succeeds(&output).ends_with("end 0 8\n"));
+                assert_eq!(kept, right);
+                fs::remove_file(&image).expect("it was saved");
+                continue;
+            }
+            fails(&output, 1, &message);
+            fails(&output, 1, "image is left as it was");
+            assert!(!Path::new(&image).exists());
+            assert!(!text(&output.stdout).contains("end "));
+            if record == 0 {
+                fails(&output, 1, "goes on with 77h");
+                assert_eq!(kept, right);
+                continue;
+            }
+            fails(
+                &output,
+                1,
+                &format!("record {record}, {in_transfer}: DO is "),
+            );
+            let same = expected
+                .iter()
+                .zip(right)
+                .take_while(|(left, right)| **left == *right);
+            let same = same.count();
+            assert_eq!(kept, right[..=same]);
+            match expected.get(same) {
+                Some(byte) => fails(&output, 1, &format!("wanted is {byte:02X}h;")),
+                None => fails(&output, 1, &format!("wanted ends after {same} bytes;")),
+            }
+        }
+    }
+
+    // Outside a transfer, of an unknown instruction, and in a transfer begun before the log.
+    let wanted = folder.write("wanted", &[0xFF, 0xFF, 0x00]);
+    let args = ["replay", "--expect", &wanted, "-"];
+    let outside = [0x01, 0x02, 0x6B, 0x03, 0x02, 0x00, 0x02, 0x00];
+    fails(
+        &with_input(&args, &outside),
+        1,
+        "record 4, not selected: DO is FFh",
+    );
+    let unknown = [0x01, 0x02, 0x6B, 0x02, 0x00, 0x02, 0x00];
+    let message = "record 3, in the transfer of record 0 (6Bh, unknown): DO is FFh";
+    fails(&with_input(&args, &unknown), 1, message);
+    succeeds(&with_input(
+        &["replay", "--save", &image, "-"],
+        &[0x01, 0x02, 0x9F],
+    ));
+    let args = ["replay", "--image", &image, "--expect", &wanted, "-"];
+    let message = "record 1, in the transfer begun before the log (9Fh Read ID): DO is 5Ah";
+    fails(&with_input(&args, &[0x02, 0x00, 0x02, 0x00]), 1, message);
+    let missing = folder.file("missing");
+    let args = [
+        "replay",
+        "--expect",
+        &missing,
+        "--out",
+        &folder.file("new"),
+        "-",
+    ];
+    fails(&with_input(&args, &REPLAY), 1, "missing: ");
+    assert!(!Path::new(&folder.file("new")).exists());
+}
+
+/// The difference is far behind the first piece, in a transfer that a piece cuts.
+#[test]
+fn a_difference_late_in_a_long_log() {
+    let mut log = REPLAY[..13].to_vec();
+    log.extend([0x02, 0x00].repeat(200_000));
+    let mut device = Device::power_up(Geometry::bench()).expect("a device");
+    let mut out = vec![0; log.len() / 2];
+    let answer = device.run(&log, &mut out);
+    out.truncate(answer.written);
+    out[199_999] ^= 0x10;
+    let folder = Folder::new("a_difference_late_in_a_long_log");
+    let wanted = folder.write("wanted", &out);
+    let message = "record 200002, in the transfer of record 1 (0Fh Get Feature): \
+        DO is 00h, and byte 199999 of ";
+    for trace in [&[][..], &["--trace"]] {
+        let args = [&["replay", "--expect", &wanted, "-"], trace].concat();
+        let output = with_input(&args, &log);
+        fails(&output, 1, message);
+        fails(&output, 1, "wanted is 10h");
+    }
+}
+
+#[test]
+fn a_file_is_not_read_and_written() {
+    let folder = Folder::new("a_file_is_not_read_and_written");
+    let (log, image) = (folder.write("log", &REPLAY), folder.file("image"));
+    succeeds(&sleetanvil(&["replay", "--save", &image, &log]));
+    let linked = folder.file("linked");
+    fs::hard_link(&log, &linked).expect("a link");
+    let new = folder.file("new");
+    let round = folder.file("../a_file_is_not_read_and_written/new");
+    for (args, message) in [
+        (&["--out", &log[..]][..], "--out and the log"),
+        (&["--out", &linked], "--out and the log"),
+        (&["--out", &image, "--image", &image], "--out and --image"),
+        (&["--out", &image, "--save", &image], "--out and --save"),
+        (&["--out", &new, "--save", &round], "--out and --save"),
+        (&["--out", &image, "--expect", &image], "--out and --expect"),
+        (&["--save", &log], "--save and the log"),
+        (
+            &["--save", &image, "--expect", &image],
+            "--save and --expect",
+        ),
+    ] {
+        let before = fs::read(&image).expect("the image");
+        let output = sleetanvil(&[&["replay"], args, &[&log]].concat());
+        fails(&output, 1, message);
+        assert_eq!(fs::read(&log).expect("the log"), REPLAY);
+        assert_eq!(fs::read(&image).expect("the image"), before);
+        assert_eq!(folder.names(), ["image", "linked", "log"]);
+    }
+}
+
+/// As with `| head`: no message, and the status of a program that the closed pipe ended.
+#[test]
+fn nobody_reads_the_output() {
+    let log = REPLAY.repeat(20_000);
+    for args in [&["replay", "--trace", "-"][..], &["replay", "-"]] {
+        let mut child = start(args);
+        let stdout = child.stdout.take().expect("its standard output");
+        if args.len() > 2 {
+            let mut line = String::new();
+            let mut stdin = child.stdin.take().expect("its standard input");
+            let writer = std::thread::spawn({
+                let log = log.clone();
+                move || drop(stdin.write_all(&log))
+            });
+            let mut reader = BufReader::new(stdout);
+            reader.read_line(&mut line).expect("a line");
+            assert!(line.ends_with("19 of 20 units done\n"), "{line}");
+            drop(reader);
+            writer.join().expect("the writer");
+        } else {
+            drop(stdout);
+        }
+        let output = child.wait_with_output().expect("the program ends");
+        assert_eq!(text(&output.stderr), "");
+        assert_eq!(output.status.code(), Some(141));
+    }
 }

@@ -1,7 +1,8 @@
 //! The command line.
 
-use std::ffi::OsString;
+use std::ffi::{OsStr, OsString};
 use std::fmt;
+use std::os::unix::ffi::OsStrExt;
 use std::path::PathBuf;
 
 use sleetanvil::Geometry;
@@ -14,42 +15,73 @@ usage:
   sleetanvil --help                  print this text
   sleetanvil --version               print the version
 
-options of replay:
+options of replay; a value may also be given as --part=NAME:
   --part NAME     the part: bench or fm25s005bi3; bench if neither this nor
                   an image names one
-  --image FILE    cells and page counts to begin with; without it all cells
-                  are FFh and all page counts 0
-  --save FILE     where to put cells and page counts once the log has been
-                  read to its end; may be the file of --image
-  --trace         print a line for each transfer and each other record
+  --image FILE    the device to begin with. The replay goes on where the log
+                  ended whose device was saved. Without an image it begins at
+                  power-up, all cells FFh and all page counts 0
+  --power-up      begin at power-up, with WP# high, and take nothing but cells
+                  and page counts from the image
+  --save FILE     where to put the device once the log has been read to its
+                  end; may be the file of --image
+  --out FILE      where to put the bytes on DO, one for each shift
+  --expect FILE   compare the bytes on DO with those of the file. The replay
+                  stops at the first that differs; nothing is saved then, and
+                  neither a verdict nor `end` is printed. The log has to end
+                  where the file does
+  --trace         print a line for each transfer and each other record, in the
+                  order in which they begin. An indented line is of a record
+                  inside the transfer above it
   --bytes N       data bytes that a line of the trace shows; 16 if not given
-  --judge         print `orderly` or `not orderly` before the last line. A log
-                  is orderly if while the array is busy no command is begun but
-                  Get Feature, Read ID and Reset, no reset and no power loss
-                  takes effect, and if it ends with the array idle: its end is
-                  then the one reached if each operation is done whole as it
-                  begins
+  --judge         print `orderly`, or `not orderly` and the first reason, before
+                  the last line. A log is orderly if it begins at power-up or
+                  idle, if while the array is busy no command is begun but Get
+                  Feature, Read ID and Reset, no reset and no power loss takes
+                  effect, and if it ends with the array idle: its end is then
+                  the one reached if each operation is done whole as it begins.
+                  Of a log that is refused it speaks of the records done
 
-The replay begins at power-up. The last line printed is `end`, the number of
-refusal and the records done; `end 0 8` is a log of 8 records read to its end.
+The last line printed is `end`, the number of refusal and the records done;
+`end 0 8` is a log of 8 records read to its end. Records, and the bytes of a
+log and of the bytes on DO, are numbered from 0.
 
 A log is a row of records: a byte of kind, then a body.
   01      chip select falls           04 nn nn  array work, low byte first
   02 nn   a byte shifted in on DI     05 nn     WP# level, 0 or 1
   03      chip select rises           06        power lost and back
+It is read in pieces and may be larger than memory; but with --judge it is read
+whole, for the verdict is of the whole. Of a long log standard error tells how
+much is done, if it is a terminal.
 
 An image file holds, with numbers low byte first:
   8 bytes  `SLEETIMG`
-  4 bytes  version, 1
+  4 bytes  version, 2
   16 bytes data bytes a page, spare bytes a page, pages a block and blocks,
            4 bytes each
   4 bytes  the two identity bytes, then two zeros
-  then the cells, row by row, and the page counts, a byte a page
+  then     the cells, row by row, and the page counts, a byte a page
+  24 bytes the state, as in `sleet_state` of sleetanvil.h: A0h, B0h, C0h, D0h,
+           WP#, selected, count, first, second, third and job, a byte each; a
+           zero; instruction, column and row, 2 bytes each; two zeros; units,
+           4 bytes
+  then     the cache register
+Version 1 ends with the page counts; a replay of it begins at power-up. A file
+of version 2 is what is saved.
 
-A file is saved under another name and then renamed, so that it is whole or as
-it was. A log that is refused leaves it as it was.
+A file is saved under another name in the same folder and then renamed, so that
+it is whole or as it was. Links are followed, and a file that is replaced gives
+its mode to the new one; what is there and is not a file is refused before the
+replay. A log that is refused leaves it as it was.
 
-exit status: 0 done, 1 a bad file or a refused log, 2 a bad command line
+exit status:
+  0    done
+  1    a bad file, a refused log (judged or not), or output that differs
+  2    a bad command line
+  3    with --judge: the log was read to its end, all is done, and the log is
+       not orderly
+  141  nobody reads standard output any more; nothing is saved, if that was
+       noticed before the end of the log
 ";
 
 /// What is asked for.
@@ -65,7 +97,10 @@ pub enum Command {
 pub struct Replay {
     pub part: Option<Part>,
     pub image: Option<PathBuf>,
+    pub power_up: bool,
     pub save: Option<PathBuf>,
+    pub out: Option<PathBuf>,
+    pub expect: Option<PathBuf>,
     pub trace: bool,
     pub bytes: usize,
     pub judge: bool,
@@ -127,37 +162,69 @@ pub fn parse(mut args: impl Iterator<Item = OsString>) -> Result<Command, String
 
 fn parse_replay(mut args: impl Iterator<Item = OsString>) -> Result<Command, String> {
     let (mut part, mut image, mut save, mut bytes, mut log) = (None, None, None, None, None);
-    let (mut trace, mut judge) = (false, false);
+    let (mut out, mut expect) = (None, None);
+    let (mut trace, mut judge, mut power_up) = (false, false, false);
     let mut options_end = false;
     while let Some(arg) = args.next() {
-        let option = arg.to_str().filter(|_| !options_end).unwrap_or_default();
-        let mut value = || args.next().ok_or(format!("{option} needs a value"));
+        let (option, mut attached) = match options_end {
+            true => ("", None),
+            false => split(&arg),
+        };
+        let mut value = || {
+            let attached = attached.take().map(OsStr::to_os_string);
+            let value = attached.or_else(|| args.next());
+            value.ok_or(format!("{option} needs a value"))
+        };
         match option {
             "--" => options_end = true,
             "--help" | "-h" => return Ok(Command::Help),
             "--trace" => trace = true,
             "--judge" => judge = true,
+            "--power-up" => power_up = true,
             "--part" => set(&mut part, option, part_of(&value()?)?)?,
             "--image" => set(&mut image, option, value()?.into())?,
             "--save" => set(&mut save, option, value()?.into())?,
+            "--out" => set(&mut out, option, value()?.into())?,
+            "--expect" => set(&mut expect, option, value()?.into())?,
             "--bytes" => set(&mut bytes, option, number_of(&value()?)?)?,
             _ if option.starts_with('-') && option != "-" => {
                 return Err(format!("no such option: {option}"));
             }
             _ if log.is_some() => return Err("more than one log".into()),
             "-" => log = Some(Source::Stdin),
-            _ => log = Some(Source::File(arg.into())),
+            _ => log = Some(Source::File(arg.clone().into())),
+        }
+        if attached.is_some() {
+            return Err(format!("{option} takes no value"));
         }
     }
     Ok(Command::Replay(Replay {
         part,
         image,
+        power_up,
         save,
+        out,
+        expect,
         trace,
         bytes: bytes.unwrap_or(16),
         judge,
         log: log.ok_or("no log given")?,
     }))
+}
+
+/// The name of an option and the value behind its `=`, if it has one; a name of no length for what
+/// cannot be an option.
+fn split(arg: &OsStr) -> (&str, Option<&OsStr>) {
+    let bytes = arg.as_bytes();
+    let equals = bytes.iter().position(|&byte| byte == b'=');
+    match equals.filter(|_| bytes.starts_with(b"--")) {
+        None => (arg.to_str().unwrap_or_default(), None),
+        Some(place) => {
+            let (name, value) = (&bytes[..place], &bytes[place + 1..]);
+            let name = std::str::from_utf8(name).unwrap_or("--?");
+            (name, Some(OsStr::from_bytes(value)))
+        }
+    }
 }
 
 /// Take the value of an option that may be given once.
@@ -171,7 +238,7 @@ fn set<T>(place: &mut Option<T>, option: &str, value: T) -> Result<(), String> {
 fn part_of(name: &OsString) -> Result<Part, String> {
     Part::ALL
         .into_iter()
-        .find(|part| name == part.name())
+        .find(|part| name.eq_ignore_ascii_case(part.name()))
         .ok_or_else(|| {
             format!(
                 "no such part: {}; there are bench and fm25s005bi3",

@@ -1,24 +1,29 @@
-//! Image files: the cells and page counts of a part. `sleetanvil --help` gives their form.
+//! Image files: a whole device. `sleetanvil --help` gives their form.
 
-use std::ffi::OsString;
-use std::fs::{self, File};
+use std::fs;
 use std::io::{self, Write};
-use std::path::{Path, PathBuf};
-use std::process;
+use std::path::Path;
 
-use sleetanvil::{Device, Geometry, Refusal};
+use sleetanvil::{Device, Geometry, State};
 
 use crate::args::Part;
+use crate::save::Target;
 
 const MAGIC: &[u8; 8] = b"SLEETIMG";
-const VERSION: u32 = 1;
+/// Cells and page counts alone.
+const OLD: u32 = 1;
+/// State and cache register too.
+const VERSION: u32 = 2;
 const HEADER: usize = 32;
+const STATE: usize = 24;
 
-/// What outlives a loss of power.
+/// What a replay begins with.
 pub struct Image {
     geometry: Geometry,
     cells: Vec<u8>,
     counts: Vec<u8>,
+    /// State and cache register; none for a part at power-up.
+    now: Option<(State, Vec<u8>)>,
 }
 
 impl Image {
@@ -28,31 +33,29 @@ impl Image {
             geometry,
             cells: vec![0xFF; geometry.cells_len()],
             counts: vec![0; geometry.counts_len()],
+            now: None,
         }
     }
 
-    /// What a device would keep.
-    pub fn of_device(device: Device) -> Self {
-        let geometry = *device.geometry();
-        let (cells, counts) = device.into_cells_and_counts();
-        Image {
-            geometry,
-            cells,
-            counts,
-        }
+    /// The same at power-up, with WP# high.
+    pub fn powered_up(self) -> Self {
+        Image { now: None, ..self }
     }
 
-    /// A device at power-up with this image.
-    pub fn power_up(self) -> Result<Device, Refusal> {
-        Device::power_up_with(self.geometry, self.cells, self.counts)
+    /// The device of this image.
+    pub fn device(self) -> Result<Device, String> {
+        let (geometry, cells, counts) = (self.geometry, self.cells, self.counts);
+        let device = match self.now {
+            None => Device::power_up_with(geometry, cells, counts),
+            Some((state, cache)) => Device::from_parts(geometry, state, cells, cache, counts),
+        };
+        device.map_err(|refusal| format!("no replay can begin with it: {refusal}"))
     }
 
     /// Load an image file, which has to be of the part that is wanted, if one is.
     pub fn load(path: &Path, wanted: Option<Part>) -> Result<Self, String> {
-        fs::read(path)
-            .map_err(|error| error.to_string())
-            .and_then(|bytes| Image::decode(&bytes, wanted))
-            .map_err(|message| format!("{}: {message}", path.display()))
+        let bytes = fs::read(path).map_err(|error| error.to_string())?;
+        Image::decode(&bytes, wanted)
     }
 
     fn decode(bytes: &[u8], wanted: Option<Part>) -> Result<Self, String> {
@@ -62,7 +65,7 @@ impl Image {
         let (header, rest) = bytes
             .split_at_checked(HEADER)
             .ok_or("the image ends inside its head")?;
-        let part = part_of_header(header)?;
+        let (part, version) = part_of_header(header)?;
         if let Some(wanted) = wanted.filter(|&wanted| wanted != part) {
             return Err(format!(
                 "the image is of part {}, not {}",
@@ -71,55 +74,49 @@ impl Image {
             ));
         }
         let geometry = part.geometry();
-        let (cells, counts) = (geometry.cells_len(), geometry.counts_len());
-        if rest.len() != cells + counts {
+        let kept = geometry.cells_len() + geometry.counts_len();
+        let now = match version {
+            OLD => 0,
+            _ => STATE + geometry.cache_len(),
+        };
+        if rest.len() != kept + now {
             return Err(format!(
-                "the image has {} bytes, and one of part {} has {}",
+                "the image has {} bytes, and one of part {} and version {version} has {}",
                 bytes.len(),
                 part.name(),
-                HEADER + cells + counts
+                HEADER + kept + now
             ));
         }
-        let (cells, counts) = rest.split_at(cells);
+        let (cells, rest) = rest.split_at(geometry.cells_len());
+        let (counts, now) = rest.split_at(geometry.counts_len());
         Ok(Image {
             geometry,
             cells: cells.to_vec(),
             counts: counts.to_vec(),
+            now: match now.split_first_chunk() {
+                None => None,
+                Some((state, cache)) => Some((decode_state(state)?, cache.to_vec())),
+            },
         })
     }
-
-    /// Save the image in a file. If that fails the file is as it was.
-    pub fn save(&self, path: &Path) -> Result<(), String> {
-        let beside = beside(path);
-        self.write(&beside)
-            .and_then(|()| fs::rename(&beside, path))
-            .map_err(|error| {
-                // There may be no such file; the first error is the one that counts.
-                let _ = fs::remove_file(&beside);
-                format!("{}: cannot save: {error}", path.display())
-            })
-    }
-
-    fn write(&self, path: &Path) -> io::Result<()> {
-        let mut file = File::create(path)?;
-        file.write_all(&header(&self.geometry))?;
-        file.write_all(&self.cells)?;
-        file.write_all(&self.counts)?;
-        file.sync_all()
-    }
 }
 
-/// A file name of this process's own in the same folder.
-fn beside(path: &Path) -> PathBuf {
-    let mut name = OsString::from(".");
-    name.push(path.file_name().unwrap_or_default());
-    name.push(format!(".{}.new", process::id()));
-    path.with_file_name(name)
+/// Save a device in a file.
+pub fn save(device: &Device, target: &Target) -> Result<(), String> {
+    target.save(|file| write(device, file))
 }
 
-fn header(geometry: &Geometry) -> [u8; HEADER] {
+fn write(device: &Device, to: &mut impl Write) -> io::Result<()> {
+    to.write_all(&header(device.geometry(), VERSION))?;
+    to.write_all(device.cells())?;
+    to.write_all(device.counts())?;
+    to.write_all(&encode_state(device.state()))?;
+    to.write_all(device.cache())
+}
+
+fn header(geometry: &Geometry, version: u32) -> [u8; HEADER] {
     let numbers = [
-        VERSION,
+        version,
         geometry.data,
         geometry.spare,
         geometry.pages,
@@ -134,16 +131,93 @@ fn header(geometry: &Geometry) -> [u8; HEADER] {
     header
 }
 
-/// The named part whose header this is.
-fn part_of_header(bytes: &[u8]) -> Result<Part, String> {
+/// The named part whose header this is, and the version.
+fn part_of_header(bytes: &[u8]) -> Result<(Part, u32), String> {
     let version = u32::from_le_bytes([bytes[8], bytes[9], bytes[10], bytes[11]]);
-    if version != VERSION {
+    if ![OLD, VERSION].contains(&version) {
         return Err(format!(
-            "the image is of version {version}, and {VERSION} is the only one known"
+            "the image is of version {version}, and only {OLD} and {VERSION} are known"
         ));
     }
     Part::ALL
         .into_iter()
-        .find(|part| header(&part.geometry()) == bytes)
+        .find(|part| header(&part.geometry(), version) == bytes)
+        .map(|part| (part, version))
         .ok_or_else(|| "the image is of no part that is known here".into())
+}
+
+fn encode_state(state: &State) -> [u8; STATE] {
+    let mut bytes = [0; STATE];
+    bytes[..11].copy_from_slice(&[
+        state.a0,
+        state.b0,
+        state.c0,
+        state.d0,
+        state.wp,
+        state.selected,
+        state.count,
+        state.first,
+        state.second,
+        state.third,
+        state.job,
+    ]);
+    bytes[12..14].copy_from_slice(&state.instruction.to_le_bytes());
+    bytes[14..16].copy_from_slice(&state.column.to_le_bytes());
+    bytes[16..18].copy_from_slice(&state.row.to_le_bytes());
+    // The longest operation of a sound part has 256 times 4,096 units.
+    bytes[20..].copy_from_slice(&(state.units as u32).to_le_bytes());
+    bytes
+}
+
+/// A state, sound or not.
+fn decode_state(bytes: &[u8; STATE]) -> Result<State, String> {
+    let [a0, b0, c0, d0, wp, selected, count, first, second, third, job, ..] = *bytes;
+    let word = |place| u16::from_le_bytes([bytes[place], bytes[place + 1]]);
+    let state = State {
+        a0,
+        b0,
+        c0,
+        d0,
+        wp,
+        selected,
+        count,
+        first,
+        second,
+        third,
+        job,
+        instruction: word(12),
+        column: word(14),
+        row: word(16),
+        units: u32::from_le_bytes([bytes[20], bytes[21], bytes[22], bytes[23]]) as usize,
+    };
+    match encode_state(&state) == *bytes {
+        true => Ok(state),
+        false => Err("a byte of the image's state that has to be 0 is not".into()),
+    }
+}
+
+#[cfg(test)]
+mod tests {
+    use sleetanvil::{Device, Geometry};
+
+    use super::{write, Image};
+    use crate::support::generate::Generator;
+
+    /// Devices in random sound states come back as they were.
+    #[test]
+    fn a_device_comes_back() {
+        for number in 0..2_000 {
+            let mut generator = Generator::new(0x1A6E, number);
+            let geometry = Geometry::bench();
+            let state = generator.sound_state(&geometry);
+            let mut fill = |length| (0..length).map(|_| generator.rng.byte()).collect();
+            let (cells, cache, counts) = (fill(640), fill(20), fill(32));
+            let device = Device::from_parts(geometry, state, cells, cache, counts);
+            let device = device.expect("a sound device");
+            let mut bytes = Vec::new();
+            write(&device, &mut bytes).expect("memory to write to");
+            let image = Image::decode(&bytes, None);
+            assert_eq!(image.and_then(Image::device), Ok(device));
+        }
+    }
 }

@@ -1,14 +1,18 @@
-//! The trace: what a log does to a device, in words.
+//! What a log does to a device, in words.
 
 use std::fmt::Write as _;
 use std::io::{self, Write};
 
 use sleetanvil::{Device, Geometry, Job, Operation, Record, State};
 
+use crate::instruction::{named, Form, Instruction};
+use crate::words::counted;
+
 /// A device whose records are run one by one, with a line for each transfer and each record beside
-/// one.
-pub struct Tracer<'a, W> {
-    device: &'a mut Device,
+/// one. The lines stand in the order in which they begin: what happens during a transfer is held
+/// back, and stands indented below it.
+pub struct Tracer<W> {
+    device: Device,
     out: W,
     /// Data bytes shown on a line.
     shown: usize,
@@ -27,58 +31,120 @@ struct Transfer {
     answered: Vec<u8>,
     /// Whether the device ignores it.
     ignored: bool,
+    /// What else happened meanwhile.
+    during: Vec<(usize, String)>,
+    /// What was before the log, if it was begun there.
+    before: Option<Before>,
 }
 
-impl<'a, W: Write> Tracer<'a, W> {
-    pub fn new(device: &'a mut Device, shown: usize, out: W) -> Self {
+/// The part of a transfer that was before the log.
+#[derive(Clone, Copy)]
+struct Before {
+    /// Its bytes; 5 stands for five or more, of which the first four are known.
+    count: usize,
+    /// The column that comes next.
+    column: usize,
+}
+
+impl Transfer {
+    /// The transfer that a device is in.
+    fn under_way(state: &State) -> Option<Self> {
+        let count = usize::from(state.count);
+        let [code, _] = state.instruction.to_le_bytes();
+        let known = [code, state.first, state.second, state.third];
+        let mut sent = known[..count.min(known.len())].to_vec();
+        sent.resize(count, 0);
+        state.is_selected().then(|| Transfer {
+            sent,
+            answered: vec![0xFF; count],
+            ignored: state.is_ignoring(),
+            before: Some(Before {
+                count,
+                column: state.column.into(),
+            }),
+            ..Transfer::default()
+        })
+    }
+
+    /// The bytes on DI from a place on, without those before the log.
+    fn sent(&self, from: usize) -> &[u8] {
+        self.sent.get(self.begins(from)..).unwrap_or_default()
+    }
+
+    /// The same on DO.
+    fn answered(&self, from: usize) -> &[u8] {
+        self.answered.get(self.begins(from)..).unwrap_or_default()
+    }
+
+    fn begins(&self, from: usize) -> usize {
+        self.before.map_or(from, |before| before.count.max(from))
+    }
+
+    /// The column of the first byte of data in the log, where data begins at a place of the
+    /// transfer.
+    fn column(&self, from: usize, column: usize) -> usize {
+        match self.before {
+            Some(before) if before.count > from => before.column,
+            _ => column,
+        }
+    }
+}
+
+impl<W: Write> Tracer<W> {
+    pub fn new(device: Device, shown: usize, out: W) -> Self {
         Tracer {
+            transfer: Transfer::under_way(device.state()),
             device,
             out,
             shown,
             records: 0,
-            transfer: None,
         }
     }
 
-    /// Run a record.
-    pub fn record(&mut self, record: Record) -> io::Result<()> {
+    /// Run a record. Gives the byte on DO, if it has one.
+    pub fn record(&mut self, record: Record) -> io::Result<Option<u8>> {
+        let mut byte = None;
         match record {
             Record::Select => self.select()?,
-            Record::Shift(byte) => self.shift(byte)?,
+            Record::Shift(sent) => byte = Some(self.shift(sent)?),
             Record::Deselect => self.deselect()?,
             Record::Work(units) => self.work(units)?,
             Record::Level(high) => self.level(high)?,
             Record::Power => self.power()?,
         }
         self.records += 1;
-        Ok(())
+        Ok(byte)
     }
 
-    /// The end of the log. Gives the records done.
-    pub fn finish(mut self) -> io::Result<usize> {
-        if let Some(transfer) = self.transfer.take() {
-            let what = self.describe(&transfer);
-            let last = self.records.saturating_sub(1);
-            self.line_of(transfer.from, last, &format!("{what}; still selected"))?;
+    /// Write out all that is known.
+    pub fn flush(&mut self) -> io::Result<()> {
+        self.out.flush()
+    }
+
+    /// The end of the log. Gives the device back.
+    pub fn finish(mut self) -> io::Result<Device> {
+        let transfer = self.transfer.take().filter(|_| self.records > 0);
+        if let Some(transfer) = transfer {
+            let text = self.describe(&transfer) + "; still selected";
+            self.line_of(&transfer, self.records - 1, &text)?;
         }
         self.out.flush()?;
-        Ok(self.records)
+        Ok(self.device)
     }
 
     fn select(&mut self) -> io::Result<()> {
-        if self.transfer.is_some() {
-            self.line("select: selected already, nothing happens")?;
-        } else {
-            self.transfer = Some(Transfer {
-                from: self.records,
-                ..Transfer::default()
-            });
-        }
         self.device.select();
+        if self.transfer.is_some() {
+            return self.line("select: selected already, nothing happens".into());
+        }
+        self.transfer = Some(Transfer {
+            from: self.records,
+            ..Transfer::default()
+        });
         Ok(())
     }
 
-    fn shift(&mut self, byte: u8) -> io::Result<()> {
+    fn shift(&mut self, byte: u8) -> io::Result<u8> {
         let answer = self.device.shift(byte);
         let ignored = self.device.state().is_ignoring();
         match &mut self.transfer {
@@ -86,45 +152,44 @@ impl<'a, W: Write> Tracer<'a, W> {
                 transfer.sent.push(byte);
                 transfer.answered.push(answer);
                 transfer.ignored = ignored;
-                Ok(())
             }
-            None => self.line(&format!(
+            None => self.line(format!(
                 "shift {byte:02X}h -> {answer:02X}h: not selected, nothing happens"
-            )),
+            ))?,
         }
+        Ok(answer)
     }
 
     fn deselect(&mut self) -> io::Result<()> {
         let before = *self.device.state();
         self.device.deselect();
         let Some(transfer) = self.transfer.take() else {
-            return self.line("deselect: not selected, nothing happens");
+            return self.line("deselect: not selected, nothing happens".into());
         };
         let mut text = self.describe(&transfer);
         if let Some(effect) = self.effect(&transfer, &before) {
             let _ = write!(text, ": {effect}");
         }
         text += &self.status_change(&before);
-        self.line_of(transfer.from, self.records, &text)
+        self.line_of(&transfer, self.records, &text)
     }
 
     fn work(&mut self, units: u16) -> io::Result<()> {
         let before = *self.device.state();
         self.device.work(units.into());
-        let plural = if units == 1 { "" } else { "s" };
-        let mut text = format!("work of {units} unit{plural}: ");
+        let mut text = format!("work of {}: ", counted(units.into(), "unit"));
         match before.operation() {
             None => text += "the array is idle, nothing happens",
             Some(operation) => text += &self.progress(&operation, units.into()),
         }
         text += &self.status_change(&before);
-        self.line(&text)
+        self.line(text)
     }
 
     /// What work did to an operation.
     fn progress(&self, operation: &Operation, units: usize) -> String {
-        let geometry = self.device.geometry();
-        let (name, length) = (operation_name(operation), length(operation.job, geometry));
+        let name = self.operation_name(operation);
+        let length = length(operation.job, self.device.geometry());
         match self.device.state().operation() {
             Some(now) => format!("{name}, {} of {length} units done", now.units),
             None => {
@@ -141,15 +206,16 @@ impl<'a, W: Write> Tracer<'a, W> {
 
     fn level(&mut self, high: bool) -> io::Result<()> {
         self.device.level(high);
-        self.line(if high { "WP# high" } else { "WP# low" })
+        self.line(format!("WP# {}", level_word(high)))
     }
 
     fn power(&mut self) -> io::Result<()> {
         let before = *self.device.state();
         if let Some(transfer) = self.transfer.take() {
-            let what = self.describe(&transfer);
+            let text = self.describe(&transfer) + "; cut by power loss";
+            // The select may have been before the log.
             let last = self.records.saturating_sub(1);
-            self.line_of(transfer.from, last, &format!("{what}; cut by power loss"))?;
+            self.line_of(&transfer, last, &text)?;
         }
         self.device.power();
         let mut text = String::from("power lost and back: ");
@@ -157,15 +223,24 @@ impl<'a, W: Write> Tracer<'a, W> {
             text += &self.cut(&operation);
             text += ", ";
         }
-        text += "read of row 0 begins";
+        let after = self.device.state();
+        let _ = write!(
+            text,
+            "read of row 0 begins; reset to A0h {:02X}h, B0h {:02X}h, D0h {:02X}h and a cache \
+             register of FFh; WP# stays {}",
+            after.a0,
+            after.b0,
+            after.d0,
+            level_word(after.wp != 0)
+        );
         text += &self.status_change(&before);
-        self.line(&text)
+        self.line(text)
     }
 
     fn cut(&self, operation: &Operation) -> String {
         format!(
             "{} cut after {} of {} units",
-            operation_name(operation),
+            self.operation_name(operation),
             operation.units,
             length(operation.job, self.device.geometry())
         )
@@ -173,43 +248,49 @@ impl<'a, W: Write> Tracer<'a, W> {
 
     /// The instruction of a transfer with its addresses and data.
     fn describe(&self, transfer: &Transfer) -> String {
+        let mut text = String::new();
+        if transfer.before.is_some() {
+            text += "begun before the log: ";
+        }
         let Some((&code, rest)) = transfer.sent.split_first() else {
-            return "select without a byte".into();
+            return text + "select without a byte";
         };
-        let answers = transfer.answered.get(1..).unwrap_or_default();
+        if transfer.ignored && transfer.before.is_some_and(|before| before.count > 0) {
+            return text + "an ignored transfer" + &self.data("with", transfer.sent(0));
+        }
         let Some(instruction) = Instruction::of(code) else {
             let bytes = self.data("sent", rest);
-            return format!("{code:02X}h{bytes}; ignored: unknown instruction");
+            return format!("{text}{code:02X}h{bytes}; ignored: unknown instruction");
         };
-        let mut text = format!("{code:02X}h {}", instruction.name);
-        text += &match instruction.form {
-            Form::Alone => self.data("and", rest),
-            Form::Get => self.describe_get(rest, answers),
-            Form::Set => match rest {
-                [address, value, more @ ..] => {
-                    format!(" {address:02X}h = {value:02X}h{}", self.data("and", more))
-                }
-                _ => self.data("with", rest),
-            },
-            Form::Id => self.data("->", answers.get(1..).unwrap_or_default()),
-            Form::Row => match rest {
-                [_, high, low, more @ ..] => {
-                    let row = u16::from_be_bytes([*high, *low]);
-                    format!(" row {row}{}", self.data("and", more))
-                }
-                _ => self.data("with", rest),
-            },
-            Form::ReadCache => match rest {
-                [high, low, ..] => {
-                    let bytes = self.data("->", answers.get(3..).unwrap_or_default());
-                    format!(" column {}{bytes}", column(*high, *low))
-                }
-                _ => self.data("with", rest),
-            },
-            Form::Load => match rest {
-                [high, low, data @ ..] => self.describe_load(column(*high, *low), data),
-                _ => self.data("with", rest),
-            },
+        text += &named(code);
+        text += &match (instruction.form, rest) {
+            (Form::Alone, _) => self.data("and", transfer.sent(1)),
+            (Form::Get, [address, ..]) => self.describe_get(*address, transfer.answered(2)),
+            (Form::Get, []) => " without an address".into(),
+            (Form::Set, [address, value, ..]) => {
+                let more = self.data("and", transfer.sent(3));
+                format!(" {address:02X}h = {value:02X}h{more}")
+            }
+            (Form::Id, _) => self.data("->", transfer.answered(2)),
+            (Form::Row, [_, high, low, ..]) => {
+                let row = self.row(code, u16::from_be_bytes([*high, *low]));
+                format!(" {row}{}", self.data("and", transfer.sent(4)))
+            }
+            (Form::ReadCache, [high, low, ..]) => {
+                let (column, data) = (column(*high, *low), transfer.answered(4));
+                let past = self.past(transfer.column(4, column), data.len());
+                let past = past.map_or_else(String::new, |past| format!(" ({past} past the page)"));
+                format!(" {}{}{past}", self.column(column), self.data("->", data))
+            }
+            (Form::Load, [high, low, ..]) => {
+                let (column, data) = (column(*high, *low), transfer.sent(3));
+                let past = self.past(transfer.column(3, column), data.len());
+                let past = past.map_or_else(String::new, |past| {
+                    format!(" ({past} past the page, dropped)")
+                });
+                format!(" {}{}{past}", self.column(column), self.data("<-", data))
+            }
+            _ => self.data("with", rest),
         };
         if transfer.ignored {
             text += "; ignored: busy at its first byte";
@@ -217,11 +298,7 @@ impl<'a, W: Write> Tracer<'a, W> {
         text
     }
 
-    fn describe_get(&self, rest: &[u8], answers: &[u8]) -> String {
-        let [address, ..] = rest else {
-            return " without an address".into();
-        };
-        let values = answers.get(1..).unwrap_or_default();
+    fn describe_get(&self, address: u8, values: &[u8]) -> String {
         let mut text = format!(" {address:02X}h{}", self.data("->", values));
         if let (0xC0, [first, .., last] | [first @ last]) = (address, values) {
             let (first, last) = (status_words(*first), status_words(*last));
@@ -234,14 +311,30 @@ impl<'a, W: Write> Tracer<'a, W> {
         text
     }
 
-    fn describe_load(&self, column: usize, data: &[u8]) -> String {
-        let page = self.device.geometry().cache_len();
-        let dropped = data.len().min((column + data.len()).saturating_sub(page));
-        let mut text = format!(" column {column}{}", self.data("<-", data));
-        if dropped > 0 {
-            let _ = write!(text, " ({dropped} past the page, dropped)");
+    /// A row, with what is to be known of it.
+    fn row(&self, code: u8, row: u16) -> String {
+        let geometry = self.device.geometry();
+        if usize::from(row) >= geometry.counts_len() {
+            format!("row {row} (outside the array)")
+        } else if code == 0xD8 {
+            format!("row {row} (block {})", block(row, geometry))
+        } else {
+            format!("row {row}")
         }
-        text
+    }
+
+    fn column(&self, column: usize) -> String {
+        match column < self.device.geometry().cache_len() {
+            true => format!("column {column}"),
+            false => format!("column {column} (outside the page)"),
+        }
+    }
+
+    /// How many bytes from a column on are past the page, if any are.
+    fn past(&self, column: usize, count: usize) -> Option<usize> {
+        let page = self.device.geometry().cache_len();
+        let past = count.min((column + count).saturating_sub(page));
+        (past > 0).then_some(past)
     }
 
     /// Bytes after a word, as many as are shown; nothing for no bytes.
@@ -254,27 +347,29 @@ impl<'a, W: Write> Tracer<'a, W> {
             let _ = write!(text, " {byte:02X}h");
         }
         if bytes.len() > self.shown {
-            let _ = write!(text, " .. {} bytes in all", bytes.len());
+            let _ = write!(text, " .. {} in all", counted(bytes.len() as u64, "byte"));
         }
         text
     }
 
     /// What the end of a transfer did. The state is that before it.
     fn effect(&self, transfer: &Transfer, before: &State) -> Option<String> {
-        let instruction = Instruction::of(*transfer.sent.first()?)?;
-        let needed = instruction.bytes?;
-        if transfer.ignored {
-            return None;
-        }
+        let code = *transfer.sent.first().filter(|_| !transfer.ignored)?;
+        let needed = Instruction::of(code)?.bytes?;
         if transfer.sent.len() != needed {
-            let sent = transfer.sent.len();
-            return Some(format!("nothing, {sent} bytes and not {needed}"));
+            let sent = match transfer.before {
+                Some(before) if before.count > 4 => "5 bytes or more".into(),
+                _ => counted(transfer.sent.len() as u64, "byte"),
+            };
+            return Some(format!("nothing happens, shifted {sent}, needs {needed}"));
         }
         let after = self.device.state();
         match transfer.sent[..] {
             [0x1F, address, _] => Some(register_change(address, before, after)),
             [0x13, ..] => Some(self.begun(after)),
-            [0x10 | 0xD8, ..] if !before.is_write_enabled() => Some("nothing, WEL is 0".into()),
+            [0x10 | 0xD8, ..] if !before.is_write_enabled() => {
+                Some("nothing happens, WEL is 0".into())
+            }
             [0x10 | 0xD8, _, high, low] => Some(if after.is_busy() {
                 self.begun(after)
             } else {
@@ -287,8 +382,14 @@ impl<'a, W: Write> Tracer<'a, W> {
 
     fn begun(&self, state: &State) -> String {
         state.operation().map_or_else(String::new, |operation| {
-            let length = length(operation.job, self.device.geometry());
-            format!("{} begins, {length} units", operation_name(&operation))
+            let geometry = self.device.geometry();
+            let outside = usize::from(operation.row) >= geometry.counts_len();
+            format!(
+                "{} begins, {} units{}",
+                self.operation_name(&operation),
+                length(operation.job, geometry),
+                if outside { ", all FFh" } else { "" }
+            )
         })
     }
 
@@ -302,10 +403,10 @@ impl<'a, W: Write> Tracer<'a, W> {
         match self.device.counts().get(usize::from(row)) {
             None => format!("{bit}, the row is outside the array"),
             Some(&count) if state.program_failed() && count >= 4 => {
-                format!("{bit}, the page count is {count}")
+                format!("{bit}, the page was programmed {count} times since its erase")
             }
             Some(_) => {
-                let block = u32::from(row) / self.device.geometry().pages;
+                let block = block(row, self.device.geometry());
                 format!("{bit}, block {block} is protected")
             }
         }
@@ -320,60 +421,46 @@ impl<'a, W: Write> Tracer<'a, W> {
         format!("; status {before:02X}h -> {after:02X}h ({words})")
     }
 
-    /// A line for the record under way.
-    fn line(&mut self, text: &str) -> io::Result<()> {
-        writeln!(self.out, "{:>11}  {text}", self.records)
-    }
-
-    /// A line for some records.
-    fn line_of(&mut self, from: usize, to: usize, text: &str) -> io::Result<()> {
-        if from == to {
-            writeln!(self.out, "{from:>11}  {text}")
-        } else {
-            writeln!(self.out, "{:>11}  {text}", format!("{from}-{to}"))
+    fn operation_name(&self, operation: &Operation) -> String {
+        let row = operation.row;
+        match operation.job {
+            Job::Read => format!("read of row {row}"),
+            Job::Program => format!("program of row {row}"),
+            Job::Erase => format!("erase of block {}", block(row, self.device.geometry())),
         }
     }
+
+    /// A line for the record under way.
+    fn line(&mut self, text: String) -> io::Result<()> {
+        match &mut self.transfer {
+            Some(transfer) => {
+                transfer.during.push((self.records, text));
+                Ok(())
+            }
+            None => writeln!(self.out, "{:>11}  {text}", self.records),
+        }
+    }
+
+    /// The lines of a transfer whose last record is given.
+    fn line_of(&mut self, transfer: &Transfer, last: usize, text: &str) -> io::Result<()> {
+        let from = transfer.from;
+        if from == last {
+            writeln!(self.out, "{from:>11}  {text}")?;
+        } else {
+            writeln!(self.out, "{:>11}  {text}", format!("{from}-{last}"))?;
+        }
+        for (record, text) in &transfer.during {
+            writeln!(self.out, "{record:>11}      {text}")?;
+        }
+        Ok(())
+    }
 }
 
-/// What comes after an instruction.
-#[derive(Clone, Copy)]
-enum Form {
-    Alone,
-    Get,
-    Set,
-    Id,
-    Row,
-    ReadCache,
-    Load,
-}
-
-/// An instruction as the trace tells of it.
-struct Instruction {
-    name: &'static str,
-    form: Form,
-    /// The bytes it needs, if it acts when chip select rises.
-    bytes: Option<usize>,
-}
-
-impl Instruction {
-    fn of(code: u8) -> Option<Self> {
-        let (name, form, bytes) = match code {
-            0x06 => ("Write Enable", Form::Alone, Some(1)),
-            0x04 => ("Write Disable", Form::Alone, Some(1)),
-            0x0F => ("Get Feature", Form::Get, None),
-            0x1F => ("Set Feature", Form::Set, Some(3)),
-            0x9F => ("Read ID", Form::Id, None),
-            0x13 => ("Page Read", Form::Row, Some(4)),
-            0x03 => ("Read From Cache", Form::ReadCache, None),
-            0x0B => ("Fast Read From Cache", Form::ReadCache, None),
-            0x02 => ("Program Load", Form::Load, None),
-            0x84 => ("Program Load Random Data", Form::Load, None),
-            0x10 => ("Program Execute", Form::Row, Some(4)),
-            0xD8 => ("Block Erase", Form::Row, Some(4)),
-            0xFF => ("Reset", Form::Alone, Some(1)),
-            _ => return None,
-        };
-        Some(Instruction { name, form, bytes })
+fn level_word(high: bool) -> &'static str {
+    if high {
+        "high"
+    } else {
+        "low"
     }
 }
 
@@ -381,13 +468,8 @@ fn column(high: u8, low: u8) -> usize {
     usize::from(u16::from_be_bytes([high & 0x0F, low]))
 }
 
-fn operation_name(operation: &Operation) -> String {
-    let name = match operation.job {
-        Job::Read => "read",
-        Job::Program => "program",
-        Job::Erase => "erase",
-    };
-    format!("{name} of row {}", operation.row)
+fn block(row: u16, geometry: &Geometry) -> u32 {
+    u32::from(row) / geometry.pages
 }
 
 /// The units of an operation.
@@ -421,12 +503,13 @@ fn status_words(status: u8) -> String {
 fn register_change(address: u8, before: &State, after: &State) -> String {
     let (old, new) = match address {
         0xA0 if before.a0 & 0x80 != 0 && before.wp == 0 => {
-            return "nothing, BRWD is 1 and WP# low".into();
+            return "nothing happens, BRWD is 1 and WP# is low".into();
         }
         0xA0 => (before.a0, after.a0),
         0xB0 => (before.b0, after.b0),
+        0xC0 => return "nothing happens, C0h cannot be written".into(),
         0xD0 => (before.d0, after.d0),
-        _ => return "nothing, no register to write".into(),
+        _ => return format!("nothing happens, there is no register at {address:02X}h"),
     };
     format!("{old:02X}h -> {new:02X}h")
 }
