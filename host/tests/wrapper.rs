@@ -291,14 +291,27 @@ fn lent_memory_stays_the_callers() {
 
 #[test]
 fn refusals_have_numbers_and_words() {
+    let expected = [
+        (Refusal::BadPart, 1, "geometry"),
+        (Refusal::BadCells, 2, "cells"),
+        (Refusal::BadCache, 3, "cache register"),
+        (Refusal::BadCounts, 4, "page counts"),
+        (Refusal::BadState, 5, "state"),
+        (Refusal::BadKind, 6, "kind"),
+        (Refusal::ShortBody, 7, "inside a body"),
+        (Refusal::BadLevel, 8, "WP#"),
+        (Refusal::NoRoom, 9, "no output room"),
+    ];
     let mut seen = HashSet::new();
-    for refusal in Refusal::ALL {
-        assert_eq!(Refusal::from_number(refusal.number()), Some(refusal));
+    for (refusal, number, about) in expected {
+        assert_eq!(refusal.number(), number);
+        assert_eq!(Refusal::from_number(number), Some(refusal));
         let error: Box<dyn Error> = refusal.into();
         let words = error.to_string();
-        assert!(!words.is_empty() && words.is_ascii());
+        assert!(words.contains(about), "{number}: {words}");
         assert!(seen.insert(words), "two refusals have the same words");
     }
+    assert_eq!(expected.map(|(refusal, ..)| refusal), Refusal::ALL);
     assert!(Refusal::ALL.is_sorted_by(|one, next| one.number() < next.number()));
     let numbers = (0..=255).filter_map(Refusal::from_number);
     assert!(numbers.eq(Refusal::ALL));
