@@ -16,7 +16,7 @@ use Rattle.kept.proofs.Exactly.{power-up-sound}
 use Rattle.refusals.specs.Refusals.{numberOf, checkOf, passed, checkedAs}
 use Rattle.refusals.specs.declared.Refusal.{Refusal}
 use Rattle.refusals.specs.declared.Refusal.the-variants.{Done, BadPart, BadCells, BadCache, BadCounts, BadState, BadKind, ShortBody, BadLevel, NoRoom}
-use Rattle.beside.specs.Beside.{blanked, blankCheck, blankOf}
+use Rattle.beside.specs.Beside.{blankEnd, blankCheck, blankOf}
 use Rattle.beside.specs.Promises.{BlankExactly, BlankReady}
 use Rattle.beside.proofs.Asked.{part-sound}
 
@@ -36,12 +36,12 @@ passed-done NoRoom h = absurd (subst T (sym h) tt)
 -- ---- what the code has, case by case
 
 module _ (g : Geometry) (cells cache counts : List ℕ) (k : Refusal) (p : k ≡ blankCheck g cells cache counts) where
-  pub blank-refused : passed k ≡ false → blanked k cells cache counts ≡ blankOf g cells cache counts
+  pub blank-refused : passed k ≡ false → blankEnd k cells cache counts ≡ blankOf g cells cache counts
   unfolding blankOf
   blank-refused q = rw (← p, q)
 
   pub blank-done : passed k ≡ true → (cells₁ cache₁ counts₁ : List ℕ) → cells₁ ≡ replicate (length cells) 0xFF → cache₁ ≡ replicate (length cache) 0xFF → counts₁ ≡ replicate (length counts) 0
-      → blanked k cells₁ cache₁ counts₁ ≡ blankOf g cells cache counts
+      → blankEnd k cells₁ cache₁ counts₁ ≡ blankOf g cells cache counts
   unfolding blankOf
   blank-done q cells₁ cache₁ counts₁ x y z = rw (← p, q, x, y, z, passed-done k q)
 
@@ -68,7 +68,7 @@ blank-exactly g cells cache counts =
   where
     go : (a b c d : Bool) →
         let k = cond (not a) BadPart (cond (not b) BadCells (cond (not c) BadCache (cond (not d) BadCounts Done))) in
-        numberOf (cond (passed k) (blanked Done (replicate (length cells) 0xFF) (replicate (length cache) 0xFF) (replicate (length counts) 0)) (blanked k cells cache counts) .refusal)
+        numberOf (cond (passed k) (blankEnd Done (replicate (length cells) 0xFF) (replicate (length cache) 0xFF) (replicate (length counts) 0)) (blankEnd k cells cache counts) .refusal)
         ≡ cond (not a) 1 (cond (not b) 2 (cond (not c) 3 (cond (not d) 4 0)))
     go false b c d = refl
     go true false c d = refl
@@ -83,7 +83,7 @@ unfolding blankOf
 blank-ready g cells cache counts = go (blankCheck g cells cache counts) (passed (blankCheck g cells cache counts)) refl refl
   where
     go : (k : Refusal) (b : Bool) → blankCheck g cells cache counts ≡ k → passed k ≡ b →
-        let x = cond b (blanked Done (replicate (length cells) 0xFF) (replicate (length cache) 0xFF) (replicate (length counts) 0)) (blanked k cells cache counts) in
+        let x = cond b (blankEnd Done (replicate (length cells) 0xFF) (replicate (length cache) 0xFF) (replicate (length counts) 0)) (blankEnd k cells cache counts) in
         passed (x .refusal) ≡ true → checkedAs g (machine powerUp (x .cells) (x .cache) (x .counts)) ≡ Done
     go k true p q h = rw (length-replicate {A = ℕ} (length cells) 0xFF, length-replicate {A = ℕ} (length cache) 0xFF, length-replicate {A = ℕ} (length counts) 0) (p ∙ passed-done k q)
     go k false p q h = absurd (subst T (sym h ∙ q) tt)

@@ -68,8 +68,8 @@ pub record Blanked : Type 0 where
   pub counts : List ℕ
 
 -- the four together
-abbrev pub blanked : Refusal → List ℕ → List ℕ → List ℕ → Blanked
-blanked r cells cache counts = record { refusal = r; cells = cells; cache = cache; counts = counts }
+abbrev pub blankEnd : Refusal → List ℕ → List ℕ → List ℕ → Blanked
+blankEnd r cells cache counts = record { refusal = r; cells = cells; cache = cache; counts = counts }
 
 -- what a run from power-up would refuse
 abbrev pub blankCheck : Geometry → List ℕ → List ℕ → List ℕ → Refusal
@@ -78,5 +78,5 @@ blankCheck g cells cache counts = checkOf g powerUp (length cells) (length cache
 -- cells and cache register FFh, page counts 0; where it is refused not a byte changed
 unfoldable pub blankOf : Geometry → List ℕ → List ℕ → List ℕ → Blanked
 blankOf g cells cache counts =
-    if passed (blankCheck g cells cache counts) then blanked Done (replicate (length cells) 0xFF) (replicate (length cache) 0xFF) (replicate (length counts) 0)
-    else blanked (blankCheck g cells cache counts) cells cache counts
+    if passed (blankCheck g cells cache counts) then blankEnd Done (replicate (length cells) 0xFF) (replicate (length cache) 0xFF) (replicate (length counts) 0)
+    else blankEnd (blankCheck g cells cache counts) cells cache counts

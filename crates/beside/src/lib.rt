@@ -4,7 +4,7 @@ ghost use mathlib.Core.Path.{_≡_};
 ghost use Rattle.device.specs.Machine.{machine};
 ghost use Rattle.device.specs.Work.{stepping};
 ghost use Rattle.model.specs.Runs.{seen, shown};
-ghost use Rattle.beside.specs.Beside.{peekOf, operationLength, unitsLeft, workOf, blanked, blankOf};
+ghost use Rattle.beside.specs.Beside.{peekOf, operationLength, unitsLeft, workOf, blankEnd, blankOf};
 use array::Job;
 use array::Work;
 use device::State;
@@ -101,7 +101,7 @@ pub fn work(
 // The memory of a device that was never used: cells and cache register FFh, page counts 0.
 pub fn blank(g: Geometry, cells: &mut [u8], cache: &mut [u8], counts: &mut [u8]) -> Refusal
     ensures { λ r.
-        ⌜ blanked r (now (cells .exit)) (now (cache .exit)) (now (counts .exit))
+        ⌜ blankEnd r (now (cells .exit)) (now (cache .exit)) (now (counts .exit))
         ≡ blankOf g (now (cells .entry)) (now (cache .entry)) (now (counts .entry)) ⌝ }
 {
     let k = refusals::check(g, State::power_up(), cells.len(), cache.len(), counts.len());

@@ -18,7 +18,7 @@ use Rattle.device.specs.Instructions.{answer, shifts}
 use Rattle.device.specs.declared.State.{State}
 use Rattle.stream.specs.Streams.{atColumn}
 use Rattle.stream.proofs.Shifting.{Moves}
-use Rattle.exchange.specs.Exchange.{fed, heard, Exchanged}
+use Rattle.exchange.specs.Exchange.{fed, replies, Exchanged}
 
 -- ---- places
 
@@ -50,7 +50,7 @@ upto-one {di} {out₀} {out} {i} h x l =
 -- feeding the rest from here ends where feeding all from the start does, and the answers so far stand in the output
 pub record Fed (g : Geometry) (di : List ℕ) (m₀ m : Machine) (out : List ℕ) (i : ℕ) : Type 0 where
   pub same : fed g (drop i di) m ≡ fed g di m₀
-  pub lies : take i out ++ heard g (drop i di) m ≡ heard g di m₀
+  pub lies : take i out ++ replies g (drop i di) m ≡ replies g di m₀
 
 pub fed-none : (g : Geometry) (di : List ℕ) (m : Machine) (out : List ℕ) → Fed g di m m out 0
 fed-none g di m out = record { same = refl; lies = refl }
@@ -68,30 +68,30 @@ part-fits {di} {out₀} {out} {i} u = rw (part-rest i di, part-rest i out, lengt
 module _ {g : Geometry} {di : List ℕ} {m₀ m : Machine} {out₀ out : List ℕ} {i : ℕ} (u : Upto di out₀ out i) (h : Fed g di m₀ m out i) where
   -- one byte more
   pub fed-one : (x : ℕ) → i < length di → answer g (m .state) (m .store .cache) ≡ x → Fed g di m₀ (shifts g (getD di i 0) m) (set out i x) (i + 1)
-  unfolding fed heard
+  unfolding fed replies
   fed-one x l e =
       let inside : i < length out = omega (arith, u .room, u .out-long) in
       record {
         same = rw (add-one i) (sym (ap (λ (l : List ℕ). fed g l m) (drop-cons di i 0 l)) ∙ h .same);
         lies =
             rw (add-one i, take-suc-set out i x inside, ← e)
-            (append-assoc (take i out) (answer g (m .state) (m .store .cache) ∷ []) (heard g (drop (suc i) di) (shifts g (getD di i 0) m))
-            ∙ sym (ap (λ (l : List ℕ). take i out ++ heard g l m) (drop-cons di i 0 l)) ∙ h .lies);
+            (append-assoc (take i out) (answer g (m .state) (m .store .cache) ∷ []) (replies g (drop (suc i) di) (shifts g (getD di i 0) m))
+            ∙ sym (ap (λ (l : List ℕ). take i out ++ replies g l m) (drop-cons di i 0 l)) ∙ h .lies);
       }
 
   -- what is there in the end
   abbrev pub Ended : Machine → List ℕ → Type 0
-  Ended m₁ out₁ = (m₁ ≡ fed g di m₀) × (out₁ ≡ heard g di m₀ ++ drop (length di) out₀)
+  Ended m₁ out₁ = (m₁ ≡ fed g di m₀) × (out₁ ≡ replies g di m₀ ++ drop (length di) out₀)
 
   -- all of them
   pub fed-all : length di ≤ i → Ended m out
-  unfolding fed heard
+  unfolding fed replies
   fed-all l = (
     sym (ap (λ (l : List ℕ). fed g l m) none) ∙ h .same,
     sym (take-append-drop i out)
         ∙ ap (λ (l : List ℕ). take i out ++ l) (u .rest)
         ∙ ap (λ (k : ℕ). take i out ++ drop k out₀) end
-        ∙ ap (λ (l : List ℕ). l ++ drop (length di) out₀) (sym (append-nil (take i out)) ∙ sym (ap (λ (l : List ℕ). take i out ++ heard g l m) none) ∙ h .lies),
+        ∙ ap (λ (l : List ℕ). l ++ drop (length di) out₀) (sym (append-nil (take i out)) ∙ sym (ap (λ (l : List ℕ). take i out ++ replies g l m) none) ∙ h .lies),
   )
     where
       end : i ≡ length di
@@ -101,12 +101,12 @@ module _ {g : Geometry} {di : List ℕ} {m₀ m : Machine} {out₀ out : List �
       none = ap (λ (k : ℕ). drop k di) end ∙ drop-length di
 
   -- the rest in one piece
-  fed-rest : (m₁ : Machine) (out₁ : List ℕ) → m₁ ≡ fed g (drop i di) m → out₁ ≡ heard g (drop i di) m ++ drop (length (drop i di)) (drop i out) → Ended m₁ (take i out ++ out₁)
+  fed-rest : (m₁ : Machine) (out₁ : List ℕ) → m₁ ≡ fed g (drop i di) m → out₁ ≡ replies g (drop i di) m ++ drop (length (drop i di)) (drop i out) → Ended m₁ (take i out ++ out₁)
   fed-rest m₁ out₁ x y = (
     x ∙ h .same,
     rw y
-        (sym (append-assoc (take i out) (heard g (drop i di) m) (drop (length (drop i di)) (drop i out)))
-        ∙ rw (h .lies) (ap (λ (l : List ℕ). heard g di m₀ ++ l) behind)),
+        (sym (append-assoc (take i out) (replies g (drop i di) m) (drop (length (drop i di)) (drop i out)))
+        ∙ rw (h .lies) (ap (λ (l : List ℕ). replies g di m₀ ++ l) behind)),
   )
     where
       end : i + length (drop i di) ≡ length di
@@ -117,7 +117,7 @@ module _ {g : Geometry} {di : List ℕ} {m₀ m : Machine} {out₀ out : List �
 
   -- the same of what the code lends
   pub fed-part : (m₁ : Machine) (out₁ : List ℕ) → m₁ ≡ fed g (take (length di - i) (drop i di)) m
-      → out₁ ≡ heard g (take (length di - i) (drop i di)) m ++ drop (length (take (length di - i) (drop i di))) (take (length out - i) (drop i out))
+      → out₁ ≡ replies g (take (length di - i) (drop i di)) m ++ drop (length (take (length di - i) (drop i di))) (take (length out - i) (drop i out))
       → Ended m₁ (take i out ++ (out₁ ++ drop (length out - i) (drop i out)))
   fed-part m₁ out₁ x y = rw (behind-part i out, append-nil out₁) (fed-rest m₁ out₁ (rw (part-rest i di) at x) (rw (part-rest i di, part-rest i out) at y))
 

@@ -26,7 +26,7 @@ use Rattle.refusals.specs.declared.Refusal.the-variants.{Done, NoRoom}
 use Rattle.model.specs.Runs.{shiftsIn, fitting, bytesOut, did, ranOf, runOf}
 use Rattle.model.proofs.Rooms.{fitting-all, out-length, out-parts, run-parts}
 use Rattle.exchange.specs.Exchange.{shiftsOf, transferOf}
-use Rattle.exchange.specs.Promises.{Alone, Whole, CutOff, GoesOn}
+use Rattle.exchange.specs.Promises.{PieceDone, TransferDone, CutOff, GoesOn}
 use Rattle.exchange.proofs.Records.{levels-alone, levels-transfer, shifts-many, transfer-fitting, transfer-shifts}
 
 -- ---- the run of records that were written, its checks passed
@@ -42,11 +42,11 @@ module _ (g : Geometry) (arr : Array) (m : Machine) (room : ℕ) (es : List Reco
   unfolding runOf ranOf
   ran-some fit k f = rw (ok, parse-written es h, lt-ltb room (shiftsIn es) k, f)
 
-pub alone : Alone
-alone g arr m room di ok k = ran-all g arr m room (shiftsOf di) ok (levels-alone di) (omega (arith, shifts-many di))
+pub piece-done : PieceDone
+piece-done g arr m room di ok k = ran-all g arr m room (shiftsOf di) ok (levels-alone di) (omega (arith, shifts-many di))
 
-pub whole : Whole
-whole g arr m room di ok k = ran-all g arr m room (transferOf di) ok (levels-transfer di) (omega (arith, transfer-shifts di))
+pub transfer-done : TransferDone
+transfer-done g arr m room di ok k = ran-all g arr m room (transferOf di) ok (levels-transfer di) (omega (arith, transfer-shifts di))
 
 -- ---- the chip stays selected
 

@@ -34,7 +34,7 @@ use Rattle.walk.proofs.Turns.{over-none}
 use Rattle.model.specs.Runs.{End, shiftsIn, fitting, bytesOut, did, ranOf, runOf, seen, shown}
 use Rattle.model.proofs.Single.{run-ran}
 use Rattle.model.proofs.Rooms.{fitting-all, run-parts, out-parts, shifts-append}
-use Rattle.exchange.specs.Exchange.{shiftsOf, transferOf, unlogged, fed, heard, Exchanged}
+use Rattle.exchange.specs.Exchange.{shiftsOf, transferOf, unlogged, fed, replies, Exchanged}
 
 -- ---- the records
 
@@ -92,15 +92,15 @@ module _ (g : Geometry) (arr : Array) where
   run-fed [] m = refl
   run-fed (b ∷ di) m = run-fed di (shifts g b m)
 
-  out-heard : (di : List ℕ) (m : Machine) → bytesOut g arr m (shiftsOf di) ≡ heard g di m
-  unfolding shiftsOf bytesOut step heard
-  out-heard [] m = refl
-  out-heard (b ∷ di) m = ap (λ (l : List ℕ). answer g (m .state) (m .store .cache) ∷ l) (out-heard di (shifts g b m))
+  out-replies : (di : List ℕ) (m : Machine) → bytesOut g arr m (shiftsOf di) ≡ replies g di m
+  unfolding shiftsOf bytesOut step replies
+  out-replies [] m = refl
+  out-replies (b ∷ di) m = ap (λ (l : List ℕ). answer g (m .state) (m .store .cache) ∷ l) (out-replies di (shifts g b m))
 
-  length-heard : (di : List ℕ) (m : Machine) → length (heard g di m) ≡ length di
-  unfolding heard
-  length-heard [] m = refl
-  length-heard (b ∷ di) m = ap suc (length-heard di (shifts g b m))
+  length-replies : (di : List ℕ) (m : Machine) → length (replies g di m) ≡ length di
+  unfolding replies
+  length-replies [] m = refl
+  length-replies (b ∷ di) m = ap suc (length-replies di (shifts g b m))
 
 -- ---- a piece, and a whole transfer
 
@@ -148,65 +148,65 @@ module _ (g : Geometry) (arr : Array) (m : Machine) (di out : List ℕ) where
     some : length (take n di) ≡ n
     some = length-take-le n di (omega arith)
 
-    heard-some : (m : Machine) → length (heard g (take n di) m) ≡ n
-    heard-some m = length-heard g arr (take n di) m ∙ some
+    replies-some : (m : Machine) → length (replies g (take n di) m) ≡ n
+    replies-some m = length-replies g arr (take n di) m ∙ some
 
-    module _ (p : m₁ ≡ fed g (take n di) m) (q : out₁ ≡ heard g (take n di) m ++ drop n out) where
+    module _ (p : m₁ ≡ fed g (take n di) m) (q : out₁ ≡ replies g (take n di) m ++ drop n out) where
       pub piece-short : n < length di → left NoRoom m₁ n n out₁ ≡ ranOver (shiftsOf di)
       piece-short h =
           let k : n ≡ length out = omega arith in
-          ran-left (shiftsOf di) (shiftsOf (take n di)) NoRoom (heard g (take n di) m) n n m₁ out₁
+          ran-left (shiftsOf di) (shiftsOf (take n di)) NoRoom (replies g (take n di) m) n n m₁ out₁
           (levels-alone di)
           (rw k (ap (fitting (length out)) (sym (append-nil (shiftsOf di))) ∙ fitting-short (length out) di [] (omega arith)))
           (short (shiftsOf di) (omega (arith, shifts-many di)))
           (run-fed g arr (take n di) m ∙ sym p)
-          (out-heard g arr (take n di) m)
+          (out-replies g arr (take n di) m)
           (length-shifts (take n di) ∙ some)
-          (heard-some m)
+          (replies-some m)
           q
 
       pub piece-whole : length di ≤ n → left Done m₁ n n out₁ ≡ ranOver (shiftsOf di)
       piece-whole h =
-          ran-left (shiftsOf di) (shiftsOf (take n di)) Done (heard g (take n di) m) n n m₁ out₁
+          ran-left (shiftsOf di) (shiftsOf (take n di)) Done (replies g (take n di) m) n n m₁ out₁
           (levels-alone di)
           (fitting-all (length out) (shiftsOf di) (omega (arith, shifts-many di)) ∙ ap shiftsOf (sym (take-all n di h)))
           (enough (shiftsOf di) (omega (arith, shifts-many di)))
           (run-fed g arr (take n di) m ∙ sym p)
-          (out-heard g arr (take n di) m)
+          (out-replies g arr (take n di) m)
           (length-shifts (take n di) ∙ some)
-          (heard-some m)
+          (replies-some m)
           q
 
     -- a whole transfer: the same behind a select, and a deselect behind it
     abbrev mₛ : Machine
     mₛ = overBus selects m
 
-    module _ (p : m₁ ≡ fed g (take n di) mₛ) (q : out₁ ≡ heard g (take n di) mₛ ++ drop n out) where
+    module _ (p : m₁ ≡ fed g (take n di) mₛ) (q : out₁ ≡ replies g (take n di) mₛ ++ drop n out) where
       pub transfer-short : n < length di → left NoRoom m₁ (n + 1) n out₁ ≡ ranOver (transferOf di)
       unfolding step run bytesOut
       transfer-short h =
           let k : n ≡ length out = omega arith in
-          ran-left (transferOf di) (Select ∷ shiftsOf (take n di)) NoRoom (heard g (take n di) mₛ) (n + 1) n m₁ out₁
+          ran-left (transferOf di) (Select ∷ shiftsOf (take n di)) NoRoom (replies g (take n di) mₛ) (n + 1) n m₁ out₁
           (levels-transfer di)
           (rw k (transfer-fitting (length out) di (omega arith)))
           (short (transferOf di) (omega (arith, transfer-shifts di)))
           (run-fed g arr (take n di) mₛ ∙ sym p)
-          (out-heard g arr (take n di) mₛ)
+          (out-replies g arr (take n di) mₛ)
           (ap suc (length-shifts (take n di) ∙ some) ∙ sym (add-one n))
-          (heard-some mₛ)
+          (replies-some mₛ)
           q
 
       pub transfer-whole : length di ≤ n → (m₂ : Machine) → m₂ ≡ deselects g arr m₁ → left Done m₂ (n + 2) n out₁ ≡ ranOver (transferOf di)
       unfolding step run bytesOut
       transfer-whole h m₂ d =
-          ran-left (transferOf di) (transferOf (take n di)) Done (heard g (take n di) mₛ) (n + 2) n m₂ out₁
+          ran-left (transferOf di) (transferOf (take n di)) Done (replies g (take n di) mₛ) (n + 2) n m₂ out₁
           (levels-transfer di)
           (fitting-all (length out) (transferOf di) (omega (arith, transfer-shifts di)) ∙ ap transferOf (sym (take-all n di h)))
           (enough (transferOf di) (omega (arith, transfer-shifts di)))
           (run-parts g arr (shiftsOf (take n di)) (Deselect ∷ []) mₛ ∙ ap (deselects g arr) (run-fed g arr (take n di) mₛ ∙ sym p) ∙ sym d)
-          (out-parts g arr (shiftsOf (take n di)) (Deselect ∷ []) mₛ ∙ append-nil (bytesOut g arr mₛ (shiftsOf (take n di))) ∙ out-heard g arr (take n di) mₛ)
+          (out-parts g arr (shiftsOf (take n di)) (Deselect ∷ []) mₛ ∙ append-nil (bytesOut g arr mₛ (shiftsOf (take n di))) ∙ out-replies g arr (take n di) mₛ)
           (ap suc (length-append (shiftsOf (take n di)) (Deselect ∷ []) ∙ rw (length-shifts (take n di), some) (add-one n)) ∙ two)
-          (heard-some mₛ)
+          (replies-some mₛ)
           q
         where
           two : suc (suc n) ≡ n + 2
@@ -240,17 +240,17 @@ module _ (g : Geometry) (arr : Array) (m : Machine) (di out : List ℕ) (k : Ref
     y = rw lent at x
 
     pub piece-stops : n < length di → left NoRoom m₁ n n out₁ ≡ ran (shiftsOf di)
-    piece-stops h = as-run (shiftsOf di) (left NoRoom m₁ n n out₁) (piece-short g arr m di out n e m₁ out₁ (y .after m) (lies-behind (heard g (take n di) m) out₁ (y .lies m)) h)
+    piece-stops h = as-run (shiftsOf di) (left NoRoom m₁ n n out₁) (piece-short g arr m di out n e m₁ out₁ (y .after m) (lies-behind (replies g (take n di) m) out₁ (y .lies m)) h)
 
     pub piece-ends : length di ≤ n → left Done m₁ n n out₁ ≡ ran (shiftsOf di)
-    piece-ends h = as-run (shiftsOf di) (left Done m₁ n n out₁) (piece-whole g arr m di out n e m₁ out₁ (y .after m) (lies-behind (heard g (take n di) m) out₁ (y .lies m)) h)
+    piece-ends h = as-run (shiftsOf di) (left Done m₁ n n out₁) (piece-whole g arr m di out n e m₁ out₁ (y .after m) (lies-behind (replies g (take n di) m) out₁ (y .lies m)) h)
 
   module _ (x : Exchanged g (busIn (selects (m .state .bus)) (m .state)) (m .store .cache) (take (n - 0) di) out s₁ cache₁ out₁) where
     z : Exchanged g (busIn (selects (m .state .bus)) (m .state)) (m .store .cache) (take n di) out s₁ cache₁ out₁
     z = rw lent at x
 
     pub transfer-stops : n < length di → left NoRoom m₁ (n + 1) n out₁ ≡ ran (transferOf di)
-    transfer-stops h = as-run (transferOf di) (left NoRoom m₁ (n + 1) n out₁) (transfer-short g arr m di out n e m₁ out₁ (z .after m) (lies-behind (heard g (take n di) (overBus selects m)) out₁ (z .lies m)) h)
+    transfer-stops h = as-run (transferOf di) (left NoRoom m₁ (n + 1) n out₁) (transfer-short g arr m di out n e m₁ out₁ (z .after m) (lies-behind (replies g (take n di) (overBus selects m)) out₁ (z .lies m)) h)
 
     -- and then chip select rises, which leaves the output alone
     pub transfer-ends : length di ≤ n → (m₂ : Machine) (out₂ : List ℕ) → m₂ ≡ step g arr m₁ Deselect → out₂ ≡ over out₁ n [] → left Done m₂ (n + 2) n out₂ ≡ ran (transferOf di)
@@ -258,7 +258,7 @@ module _ (g : Geometry) (arr : Array) (m : Machine) (di out : List ℕ) (k : Ref
     transfer-ends h m₂ out₂ d o =
         rw (o ∙ sym (over-none out₁ n))
         (as-run (transferOf di) (left Done m₂ (n + 2) n out₁)
-        (transfer-whole g arr m di out n e m₁ out₁ (z .after m) (lies-behind (heard g (take n di) (overBus selects m)) out₁ (z .lies m)) h m₂ d))
+        (transfer-whole g arr m di out n e m₁ out₁ (z .after m) (lies-behind (replies g (take n di) (overBus selects m)) out₁ (z .lies m)) h m₂ d))
 
 -- ---- bytes leave a machine sound
 

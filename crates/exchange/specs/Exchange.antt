@@ -40,12 +40,12 @@ fed g [] m = m
 fed g (b ∷ bs) m = fed g bs (shifts g b m)
 
 -- the bytes on DO meanwhile
-unfoldable pub heard : Geometry → List ℕ → Machine → List ℕ
-heard g [] m = []
-heard g (b ∷ bs) m = answer g (m .state) (m .store .cache) ∷ heard g bs (shifts g b m)
+unfoldable pub replies : Geometry → List ℕ → Machine → List ℕ
+replies g [] m = []
+replies g (b ∷ bs) m = answer g (m .state) (m .store .cache) ∷ replies g bs (shifts g b m)
 
 -- bytes exchanged, from a state and a cache register on, whatever else the machine holds: what is then there, and the output with
 -- their answers at its front
 pub record Exchanged (g : Geometry) (s : State) (cache di out : List ℕ) (s₁ : State) (cache₁ out₁ : List ℕ) : Type 0 where
   pub after : (m : Machine) → onCache s₁ cache₁ m ≡ fed g di (onCache s cache m)
-  pub lies : (m : Machine) → out₁ ≡ heard g di (onCache s cache m) ++ drop (length di) out
+  pub lies : (m : Machine) → out₁ ≡ replies g di (onCache s cache m) ++ drop (length di) out

@@ -16,14 +16,14 @@ use Rattle.model.specs.Runs.{bytesOut, did, runOf}
 use Rattle.exchange.specs.Exchange.{shiftsOf, transferOf}
 
 -- a piece with room for all its bytes: each of them is shifted, and nothing else is done
-abbrev pub Alone : Type 0
-Alone =
+abbrev pub PieceDone : Type 0
+PieceDone =
     (g : Geometry) (arr : Array) (m : Machine) (room : ℕ) (di : List ℕ) → passed (checkedAs g m) ≡ true → length di ≤ room →
     runOf g arr room (written (shiftsOf di)) m ≡ did g arr m Done (shiftsOf di)
 
 -- a transfer with room for all its bytes: it is selected, each of them is shifted, and it is deselected
-abbrev pub Whole : Type 0
-Whole =
+abbrev pub TransferDone : Type 0
+TransferDone =
     (g : Geometry) (arr : Array) (m : Machine) (room : ℕ) (di : List ℕ) → passed (checkedAs g m) ≡ true → length di ≤ room →
     runOf g arr room (written (transferOf di)) m ≡ did g arr m Done (transferOf di)
 

@@ -18,11 +18,11 @@ use Rattle.model.specs.Runs.{Outcome, shown}
 use Rattle.beside.specs.Beside.{peekOf}
 use Rattle.beside.proofs.Next as next
 use Rattle.beside.proofs.Works.{work-one}
-use Rattle.sleetanvil.specs.Promises.{PeekExactly, WorkRecord}
+use Rattle.sleetanvil.specs.Promises.{PeekRefused, WorkRecord}
 use Rattle.sleetanvil.specs.Runs.{shownAs, ranTold, faceRan, unheard, workedTold, workedOf}
 
-pub peek-exactly : PeekExactly
-peek-exactly g c cache = go (stateOf c)
+pub peek-refused : PeekRefused
+peek-refused g c cache = go (stateOf c)
   where
     go : (x : Told) →
         numberOf (peekOf (partOf g) (standIn x) cache .refusal)

@@ -37,8 +37,8 @@ AnyOutput =
     unheard (faceRan g c (bytesOf e) cells cache counts out) ≡ quietOf g c (bytesOf e) cells cache counts
 
 -- the next byte can be refused with 1, 3 and 5, in this order; numbers that stand for no state are 5
-abbrev pub PeekExactly : Type 0
-PeekExactly =
+abbrev pub PeekRefused : Type 0
+PeekRefused =
     (g : CGeometry) (c : CState) (cache : List ℕ) →
     peekedOf g c cache .refusal
     ≡ (if not (soundPart (partOf g)) then 1
