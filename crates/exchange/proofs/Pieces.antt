@@ -2,32 +2,38 @@
 use mathlib.Core.Bool.{Bool, true, false, cond}
 use mathlib.Core.List.{List, [], _∷_, _++_, append-nil}
 use mathlib.Core.Path.{_≡_, refl, sym, ap, _∙_}
-use Prim.Native.Nat.{ℕ, _≤_, _<_}
+use Prim.Native.Nat.{ℕ, suc, _≤_, _<_}
 use native.Mathlib.Nat.{zero-add}
 use native.Mathlib.Omega.{arith}
 use lib.Dec.{T, eqb}
 use lib.ListN.{length, take, drop, take-append-drop}
 use lib.Seq.{length-take-le}
 use borrow.Author.Tests.{lt-ltb, le-ltb}
+use Rattle.part.specs.Part.{Sound}
 use Rattle.part.specs.declared.Geometry.{Geometry}
-use Rattle.buslog.specs.Log.{written, levelsSound}
+use Rattle.buslog.specs.Log.{bytesOf, written, levelsSound, Bytes}
 use Rattle.buslog.specs.declared.Record.{Record}
 use Rattle.buslog.specs.declared.Record.the-variants.{Select, Shift, Deselect}
-use Rattle.buslog.proofs.Logs.{parse-written}
+use Rattle.buslog.proofs.Logs.{parse-written, drop-bytes}
 use Rattle.registers.specs.Registers.{oip}
 use Rattle.transfer.specs.Transfer.{fresh, heard, instructed, later, selects, shiftedIn, withTransfer}
 use Rattle.transfer.specs.declared.Bus.{Bus}
 use Rattle.device.specs.Machine.{Machine, overBus}
-use Rattle.device.specs.Work.{Array}
+use Rattle.device.specs.Work.{Array, stepping}
 use Rattle.device.specs.Instructions.{shifts}
 use Rattle.device.specs.Step.{step, run}
+use Rattle.kept.specs.Kept.{SoundMachine, BytesIn}
+use Rattle.kept.proofs.Steps.{run-keeps}
 use Rattle.refusals.specs.Refusals.{passed, checkedAs}
+use Rattle.refusals.proofs.Checked.{passed-sound}
 use Rattle.refusals.specs.declared.Refusal.the-variants.{Done, NoRoom}
 use Rattle.model.specs.Runs.{shiftsIn, fitting, bytesOut, did, ranOf, runOf}
 use Rattle.model.proofs.Rooms.{fitting-all, out-length, out-parts, run-parts}
+use Rattle.answers.proofs.Checks.{checked-only}
+use Rattle.answers.proofs.Parts.{fine-of}
 use Rattle.exchange.specs.Exchange.{shiftsOf, transferOf}
-use Rattle.exchange.specs.Promises.{PieceDone, TransferDone, CutOff, GoesOn}
-use Rattle.exchange.proofs.Records.{levels-alone, levels-transfer, shifts-many, transfer-fitting, transfer-shifts}
+use Rattle.exchange.specs.Promises.{PieceDone, TransferDone, CutOff, Completes, GoesOn}
+use Rattle.exchange.proofs.Records.{levels-alone, levels-transfer, shifts-many, take-bytes, transfer-fitting, transfer-shifts}
 
 -- ---- the run of records that were written, its checks passed
 
@@ -133,3 +139,44 @@ cut-off g arr m di r ok h =
     let e : runOf g arr r (written (transferOf di)) m ≡ did g arr m NoRoom (Select ∷ shiftsOf (take r di)) =
     ran-some g arr m r (transferOf di) ok (levels-transfer di) (Select ∷ shiftsOf (take r di)) (omega (arith, transfer-shifts di)) (transfer-fitting r di h) in
     rw e (refl, cut-long g arr m di r h, cut-on g arr m di r, completes g arr m di r, completes-out g arr m di r)
+
+-- ---- the three calls
+
+-- shifts of bytes carry bytes
+bytes-in : (l : List ℕ) → Bytes l → BytesIn (shiftsOf l)
+unfolding shiftsOf
+bytes-in [] b = tt
+bytes-in (x ∷ l) b = (b 0, bytes-in l (λ i. b (suc i)))
+
+-- a sound machine on a sound part passes the checks
+passes-sound : (g : Geometry) → Sound g → (m : Machine) → SoundMachine g m → passed (checkedAs g m) ≡ true
+passes-sound g s m h = ap passed (checked-only g m Done (fine-of g m s h))
+
+module _ (g : Geometry) (m : Machine) (di : List ℕ) (r : ℕ) (b : Bytes di) (ok : passed (checkedAs g m) ≡ true) where
+  -- the machine is sound where the transfer is cut off
+  cut-sound : SoundMachine g (cut g (stepping g) m di r)
+  cut-sound = let s = passed-sound g m ok in run-keeps g (s .0) m (Select ∷ shiftsOf (take r di)) (tt, bytes-in (take r di) (take-bytes r di b)) (s .1)
+
+  -- and behind the bytes that are left
+  abbrev rest : Machine
+  rest = run g (stepping g) (cut g (stepping g) m di r) (shiftsOf (drop r di))
+
+  rest-sound : SoundMachine g rest
+  rest-sound = run-keeps g (passed-sound g m ok .0) (cut g (stepping g) m di r) (shiftsOf (drop r di)) (bytes-in (drop r di) (drop-bytes r di b)) cut-sound
+
+  -- the second call
+  second : runOf g (stepping g) (length (drop r di)) (written (shiftsOf (drop r di))) (cut g (stepping g) m di r) ≡ did g (stepping g) (cut g (stepping g) m di r) Done (shiftsOf (drop r di))
+  second =
+      piece-done g (stepping g) (cut g (stepping g) m di r) (length (drop r di)) (drop r di)
+      (passes-sound g (passed-sound g m ok .0) (cut g (stepping g) m di r) cut-sound) (omega arith)
+
+  -- the third
+  third : runOf g (stepping g) 0 (bytesOf Deselect) rest ≡ did g (stepping g) rest Done (Deselect ∷ [])
+  unfolding written shiftsIn levelsSound
+  third = ran-all g (stepping g) rest 0 (Deselect ∷ []) (passes-sound g (passed-sound g m ok .0) rest rest-sound) tt (omega arith)
+
+pub completes-calls : Completes
+unfolding run
+completes-calls g m di r b ok h =
+    rw (cut-off g (stepping g) m di r ok h .0, second g m di r b ok, third g m di r b ok, transfer-done g (stepping g) m (length di) di ok (omega arith))
+    (refl, refl, sym (completes g (stepping g) m di r), sym (completes-out g (stepping g) m di r))

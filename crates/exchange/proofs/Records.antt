@@ -267,7 +267,7 @@ unfolding fed step
 fed-keeps g s [] b m h = h
 fed-keeps g s (x ∷ di) b m h = fed-keeps g s di (λ i. b (suc i)) (shifts g x m) (step-keeps g s m (Shift x) (b 0) h)
 
-take-bytes : (n : ℕ) (l : List ℕ) → Bytes l → Bytes (take n l)
+pub take-bytes : (n : ℕ) (l : List ℕ) → Bytes l → Bytes (take n l)
 take-bytes zero l h i = omega arith
 take-bytes (suc n) [] h i = h i
 take-bytes (suc n) (x ∷ l) h zero = h 0

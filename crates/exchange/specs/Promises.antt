@@ -5,10 +5,10 @@ use mathlib.Core.Path.{_≡_}
 use Prim.Native.Nat.{ℕ, _≤_, _<_}
 use lib.ListN.{length, take, drop}
 use Rattle.part.specs.declared.Geometry.{Geometry}
-use Rattle.buslog.specs.Log.{written}
+use Rattle.buslog.specs.Log.{bytesOf, written, Bytes}
 use Rattle.buslog.specs.declared.Record.the-variants.{Select, Deselect}
 use Rattle.device.specs.Machine.{Machine}
-use Rattle.device.specs.Work.{Array}
+use Rattle.device.specs.Work.{Array, stepping}
 use Rattle.device.specs.Step.{step, run}
 use Rattle.refusals.specs.Refusals.{passed, checkedAs}
 use Rattle.refusals.specs.declared.Refusal.the-variants.{Done, NoRoom}
@@ -37,6 +37,17 @@ CutOff =
     × (o .machine .state .bus .transfer .selected ≡ true)
     × (run g arr m (transferOf di) ≡ step g arr (run g arr (o .machine) (shiftsOf (drop r di))) Deselect)
     × (bytesOut g arr m (transferOf di) ≡ o .output ++ bytesOut g arr (o .machine) (shiftsOf (drop r di)))
+
+-- so it is with the calls themselves: the one for the bytes left and the one for the deselect are not refused, and together the three end,
+-- and put out, as the whole transfer does
+abbrev pub Completes : Type 0
+Completes =
+    (g : Geometry) (m : Machine) (di : List ℕ) (r : ℕ) → Bytes di → passed (checkedAs g m) ≡ true → r < length di →
+    let o = runOf g (stepping g) r (written (transferOf di)) m in
+    let p = runOf g (stepping g) (length (drop r di)) (written (shiftsOf (drop r di))) (o .machine) in
+    let q = runOf g (stepping g) 0 (bytesOf Deselect) (p .machine) in
+    let w = runOf g (stepping g) (length di) (written (transferOf di)) m in
+    (p .refusal ≡ Done) × (q .refusal ≡ Done) × (q .machine ≡ w .machine) × (o .output ++ p .output ≡ w .output)
 
 -- on a chip that is selected already, the select of a transfer changes nothing: its bytes go on with the transfer that has begun
 abbrev pub GoesOn : Type 0
