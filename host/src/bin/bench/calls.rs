@@ -1,4 +1,4 @@
-//! What a call costs: one event a call, one transfer a call, a log judged. The library is called as
+//! What a call costs: one event per call, one transfer per call, a log judged. The library is called as
 //! from C; the paper's model stands behind functions with the same structs by value.
 
 use std::hint::black_box;
@@ -23,12 +23,12 @@ pub fn compare(geometry: &Geometry, buffers: &mut Buffers) {
     let times = events(geometry, buffers, &mut naive);
     println!(
         "{}",
-        times.row("one event a call, polls", "event", POLL.len() + 2)
+        times.row("one event per call, polls", "event", POLL.len() + 2)
     );
     for (name, di) in [
-        ("one transfer a call, a poll", &POLL[..]),
-        ("one transfer a call, a page read out", &read_out),
-        ("one transfer a call, a page loaded", &load_in),
+        ("one transfer per call, a poll", &POLL[..]),
+        ("one transfer per call, a page read out", &read_out),
+        ("one transfer per call, a page loaded", &load_in),
     ] {
         check(geometry, buffers, &mut naive, di);
         let times = transfers(geometry, buffers, &mut naive, di);

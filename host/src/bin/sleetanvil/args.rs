@@ -57,10 +57,10 @@ much is done, if it is a terminal.
 An image file holds, with numbers low byte first:
   8 bytes  `SLEETIMG`
   4 bytes  version, 2
-  16 bytes data bytes a page, spare bytes a page, pages a block and blocks,
+  16 bytes data and spare bytes per page, pages per block and blocks,
            4 bytes each
   4 bytes  the two identity bytes, then two zeros
-  then     the cells, row by row, and the page counts, a byte a page
+  then     the cells, row by row, and the page counts, a byte per page
   24 bytes the state, as in `sleet_state` of sleetanvil.h: A0h, B0h, C0h, D0h,
            WP#, selected, count, first, second, third and job, a byte each; a
            zero; instruction, column and row, 2 bytes each; two zeros; units,
