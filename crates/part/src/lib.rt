@@ -1,6 +1,7 @@
 // The part: its geometry and when that is sound, the row and the column address, and which blocks are protected.
 // Document 01, "The article" and "Protection".
 ghost use mathlib.Core.Path.{_≡_};
+ghost use Prim.Native.Nat.{_^_, _<_};
 ghost use lib.ListN.{length, replicate};
 ghost use Rattle.part.specs.Part.{page, rows, soundPart, place, block, fm25s005bi3, bench};
 ghost use Rattle.part.specs.Protection.{bp, guarded, protects};
@@ -77,7 +78,7 @@ pub fn place(g: Geometry, row: Row, column: Column) -> usize
     wide_short(row.0) * g.page() + wide_short(column.0)
 }
 
-// How many blocks register A0h protects.
+// How many blocks register A0h protects, b being its BP number: for b = 0 none, otherwise N / 2^(7-b), rounded down.
 fn guarded(g: Geometry, a0: u8) -> usize
     ensures { λ r. ⌜ r ≡ guarded g (bp a0) ⌝ }
 {
@@ -85,7 +86,16 @@ fn guarded(g: Geometry, a0: u8) -> usize
     if b == 0 {
         return 0;
     }
-    wide(g.blocks) >> (7 - b)
+    let n = wide(g.blocks);
+    n / two_to(7 - b)
+}
+
+// Two to the power k.
+fn two_to(k: u8) -> usize
+    requires { ⌜ k < 64 ⌝ }
+    ensures { λ r. ⌜ r ≡ 2 ^ k ⌝ }
+{
+    1 << k
 }
 
 // Whether register A0h protects a block.

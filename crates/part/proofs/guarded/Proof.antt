@@ -1,3 +1,4 @@
+use lib.Pow.{pow-pos}
 use borrow.Author.Tests.{ne-eqb}
 use borrow.Author.Needs.{needs}
 use Rattle.part.proofs.guarded.Statement.{statement}
@@ -9,18 +10,18 @@ returns c = rw (c .if1 .taken)
 wide-requires : tie.Need-wide-requires
 wide-requires c κs = search needs
 
-sub-result : tie.Need-sub-result
-sub-result c = search needs
+sub-two-to : tie.Need-sub-two-to
+sub-two-to c = search needs
 
-cast-result : tie.Need-cast-result
-cast-result c = search needs
+two-to-requires : tie.Need-two-to-requires
+two-to-requires c κs = search needs
 
-shr-result : tie.Need-shr-result
-shr-result c = search needs
+div-result : tie.Need-div-result
+div-result c = rw (c .two-to .ensures) (pow-pos _)
 
 returns-2 : tie.Need-returns-2
-returns-2 c = rw (c .wide .ensures, ne-eqb _ _ (c .before .if1 .left))
+returns-2 c = rw (c .before .wide .ensures, c .two-to .ensures, ne-eqb _ _ (c .before .before .if1 .left))
 
 pub guarded-spec : {M : Type 1} → statement M
 guarded-spec =
-    tie.close (tie.spec returns wide-requires sub-result cast-result shr-result returns-2)
+    tie.close (tie.spec returns wide-requires sub-two-to two-to-requires div-result returns-2)
