@@ -363,9 +363,12 @@ fn a_trace_of_much() {
     log.transfer(&[0x13, 0x00, 0x00, 0x20]);
     log.push(Record::Work(20));
     log.transfer(&[0x1F]);
+    log.transfer(&[0x1F, 0xB0, 0x01]);
     log.transfer(&[0x1F, 0xC0, 0x00]);
+    log.transfer(&[0x1F, 0xD0, 0xFF]);
     log.transfer(&[0x1F, 0x55, 0x00]);
-    log.transfer(&[0x1F, 0xA0, 0xB8]);
+    log.transfer(&[0x1F, 0xA0, 0xFF]);
+    log.transfer(&[0x0F, 0xA0, 0x00]);
     log.transfer(&[0x06]);
     log.transfer(&[0x10, 0x00, 0x00, 0x00]);
     log.push(Record::Level(false));
@@ -376,7 +379,7 @@ fn a_trace_of_much() {
     let args = ["replay", "--trace", "--bytes", "2", "-"];
     let trace = succeeds(&with_input(&args, log.as_bytes()));
     for line in [
-        "1Fh Set Feature A0h = 00h: 38h -> 00h",
+        "1Fh Set Feature A0h = 00h: 38h -> 00h, no block protected",
         "06h Write Enable; status 00h -> 02h (WEL)",
         "02h Program Load column 0 <- A5h",
         "10h Program Execute row 5: program of row 5 begins, 20 units; status 02h -> 01h (busy)",
@@ -400,19 +403,60 @@ fn a_trace_of_much() {
         "02h Program Load column 18 <- 01h 02h .. 3 bytes in all (1 past the page, dropped)",
         "13h Page Read row 32 (outside the array): read of row 32 begins, 20 units, all FFh; \
          status 00h -> 01h (busy)",
+        "1Fh Set Feature B0h = 01h: 10h -> 01h",
         "1Fh Set Feature C0h = 00h: nothing happens, C0h cannot be written",
+        "1Fh Set Feature D0h = FFh: 40h -> 60h",
         "1Fh Set Feature 55h = 00h: nothing happens, there is no register at 55h",
+        "1Fh Set Feature A0h = FFh: 00h -> BCh, all 8 blocks protected",
+        "0Fh Get Feature A0h -> BCh (all 8 blocks protected)",
         "10h Program Execute row 0: P_FAIL, block 0 is protected; status 02h -> 08h (P_FAIL)",
         "WP# low",
         "1Fh Set Feature A0h = 00h: nothing happens, BRWD is 1 and WP# is low",
         "9Fh Read ID -> 5Ah 01h",
         "select without a byte; cut by power loss",
-        "power lost and back: read of row 0 begins; reset to A0h 38h, B0h 10h, D0h 40h and a \
-         cache register of FFh; WP# stays low; status 08h -> 01h (busy)",
+        "power lost and back: read of row 0 begins; reset to A0h 38h (all 8 blocks protected), \
+         B0h 10h, D0h 40h and a cache register of FFh; WP# stays low; status 08h -> 01h (busy)",
     ] {
         let found = trace.lines().any(|traced| traced.get(13..) == Some(line));
         assert!(found, "no line `{line}` in\n{trace}");
     }
+}
+
+/// The protected blocks of the real part, at each BP number and on both sides.
+#[test]
+fn a_trace_of_protection() {
+    let mut log = Log::new();
+    log.push(Record::Work(u16::MAX));
+    let expected = [
+        (0x00, "no block protected"),
+        (0x08, "blocks 504 to 511 protected"),
+        (0x10, "blocks 496 to 511 protected"),
+        (0x18, "blocks 480 to 511 protected"),
+        (0x20, "blocks 448 to 511 protected"),
+        (0x28, "blocks 384 to 511 protected"),
+        (0x30, "blocks 256 to 511 protected"),
+        (0x38, "all 512 blocks protected"),
+        (0x04, "no block protected"),
+        (0x0C, "blocks 0 to 7 protected"),
+        (0x14, "blocks 0 to 15 protected"),
+        (0x1C, "blocks 0 to 31 protected"),
+        (0x24, "blocks 0 to 63 protected"),
+        (0x2C, "blocks 0 to 127 protected"),
+        (0x34, "blocks 0 to 255 protected"),
+        (0x3C, "all 512 blocks protected"),
+    ];
+    for (a0, _) in expected {
+        log.transfer(&[0x1F, 0xA0, a0]);
+    }
+    let args = ["replay", "--part", "fm25s005bi3", "--trace", "-"];
+    let trace = succeeds(&with_input(&args, log.as_bytes()));
+    let mut before = 0x38;
+    let lines = expected.map(|(a0, blocks)| {
+        let line = format!("1Fh Set Feature A0h = {a0:02X}h: {before:02X}h -> {a0:02X}h, {blocks}");
+        before = a0;
+        line
+    });
+    assert_eq!(texts(&trace)[1..], lines);
 }
 
 #[test]
@@ -741,11 +785,15 @@ fn a_transfer_begun_before_the_log() {
             "02h Program Load column 16 <- 03h 04h 05h (1 past the page, dropped)",
         ),
         (&[0x0F], &[0xC0, 0x00], "0Fh Get Feature C0h -> 00h (idle)"),
-        (&[0x0F, 0xA0, 0x00], &[0x00], "0Fh Get Feature A0h -> 38h"),
+        (
+            &[0x0F, 0xA0, 0x00],
+            &[0x00],
+            "0Fh Get Feature A0h -> 38h (all 8 blocks protected)",
+        ),
         (
             &[0x1F, 0xA0],
             &[0x00],
-            "1Fh Set Feature A0h = 00h: 38h -> 00h",
+            "1Fh Set Feature A0h = 00h: 38h -> 00h, no block protected",
         ),
         (
             &[0x13, 0x00, 0x00, 0x00, 0x00, 0x00],

@@ -1,9 +1,12 @@
-//! Document 01's own examples, each worked out from the paper: its replay, its thirteen cases, and
-//! the errors that look right.
+//! Document 01's own examples, each worked out from the paper: its replay, its thirteen cases, the
+//! protected blocks as the docs have them, and the errors that look right.
 //!
 //! Each is put to the independent model and to the proved library.
 
 mod support;
+
+use std::fs;
+use std::path::Path;
 
 use sleetanvil::case::{model, Case, Fill, Outcome, Subject};
 use sleetanvil::{Geometry, Refusal, State};
@@ -100,17 +103,21 @@ fn protected(geometry: Geometry, a0: u8, expected: &[u16]) {
     }
 }
 
-#[test]
-fn case_1_the_top_of_512_blocks() {
-    let geometry = Geometry {
+/// As many blocks as the FM25S005BI3 has, each of one byte.
+fn blocks_512() -> Geometry {
+    Geometry {
         data: 1,
         spare: 0,
         pages: 1,
         blocks: 512,
         ..Geometry::bench()
-    };
+    }
+}
+
+#[test]
+fn case_1_the_top_of_512_blocks() {
     let highest: Vec<u16> = (504..512).collect();
-    protected(geometry, 1 << 3, &highest);
+    protected(blocks_512(), 1 << 3, &highest);
 }
 
 #[test]
@@ -126,6 +133,44 @@ fn case_3_none_and_all() {
     for inverted in [0, 4] {
         protected(Geometry::bench(), inverted, &[]);
         protected(Geometry::bench(), 7 << 3 | inverted, &all);
+    }
+}
+
+/// The table of protected blocks in `docs/FOR-DRIVERS.md`: each line of it, on both sides.
+#[test]
+fn the_table_of_protected_blocks() {
+    const HEAD: &str = "| b | divided by | blocks protected | A0h with INV 0 | which |";
+    let page = Path::new(env!("CARGO_MANIFEST_DIR")).join("../docs/FOR-DRIVERS.md");
+    let page = fs::read_to_string(page).expect("the page for drivers");
+    let table = page.lines().skip_while(|line| !line.starts_with(HEAD));
+    let lines: Vec<_> = table
+        .skip(2)
+        .take_while(|line| line.starts_with('|'))
+        .collect();
+    assert_eq!(lines.len(), 8);
+    for (b, line) in (0..).zip(lines) {
+        let cells: Vec<_> = line.split('|').map(str::trim).collect();
+        let [_, number, divisor, count, a0, which, inverted_a0, inverted, _] = cells[..] else {
+            panic!("{line}");
+        };
+        assert_eq!(number, b.to_string());
+        let divided = divisor.parse().map_or(0, |divisor: usize| 512 / divisor);
+        assert_eq!(count, divided.to_string(), "{line}");
+        for (a0, which, inv) in [(a0, which, 0), (inverted_a0, inverted, 4)] {
+            assert_eq!(a0, format!("{:02X}h", b << 3 | inv), "{line}");
+            let blocks: Vec<u16> = match which.split_once(" to ") {
+                Some((first, last)) => {
+                    let number = |text: &str| text.parse::<u16>().expect(line);
+                    (number(first)..=number(last)).collect()
+                }
+                None => {
+                    assert_eq!(which, "none", "{line}");
+                    Vec::new()
+                }
+            };
+            assert_eq!(count, blocks.len().to_string(), "{line}");
+            protected(blocks_512(), b << 3 | inv, &blocks);
+        }
     }
 }
 

@@ -7,6 +7,7 @@ mod judge;
 mod output;
 mod pieces;
 mod progress;
+mod protection;
 mod replay;
 mod save;
 mod trace;

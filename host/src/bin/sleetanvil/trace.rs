@@ -6,6 +6,7 @@ use std::io::{self, Write};
 use sleetanvil::{Device, Geometry, Job, Operation, Record, State};
 
 use crate::instruction::{named, Form, Instruction};
+use crate::protection;
 use crate::words::counted;
 
 /// A device whose records are run one by one, with a line for each transfer and each record beside
@@ -226,9 +227,10 @@ impl<W: Write> Tracer<W> {
         let after = self.device.state();
         let _ = write!(
             text,
-            "read of row 0 begins; reset to A0h {:02X}h, B0h {:02X}h, D0h {:02X}h and a cache \
-             register of FFh; WP# stays {}",
+            "read of row 0 begins; reset to A0h {:02X}h ({}), B0h {:02X}h, D0h {:02X}h and a \
+             cache register of FFh; WP# stays {}",
             after.a0,
+            protection::words(self.device.geometry(), after.a0),
             after.b0,
             after.d0,
             level_word(after.wp != 0)
@@ -299,16 +301,20 @@ impl<W: Write> Tracer<W> {
     }
 
     fn describe_get(&self, address: u8, values: &[u8]) -> String {
-        let mut text = format!(" {address:02X}h{}", self.data("->", values));
-        if let (0xC0, [first, .., last] | [first @ last]) = (address, values) {
-            let (first, last) = (status_words(*first), status_words(*last));
-            text += &if first == last {
-                format!(" ({last})")
-            } else {
-                format!(" ({first}, then {last})")
-            };
-        }
-        text
+        let data = self.data("->", values);
+        let words = match (address, values) {
+            (0xA0, [.., last]) => protection::words(self.device.geometry(), *last),
+            (0xC0, [first, .., last] | [first @ last]) => {
+                let (first, last) = (status_words(*first), status_words(*last));
+                if first == last {
+                    last
+                } else {
+                    format!("{first}, then {last}")
+                }
+            }
+            _ => return format!(" {address:02X}h{data}"),
+        };
+        format!(" {address:02X}h{data} ({words})")
     }
 
     /// A row, with what is to be known of it.
@@ -365,7 +371,7 @@ impl<W: Write> Tracer<W> {
         }
         let after = self.device.state();
         match transfer.sent[..] {
-            [0x1F, address, _] => Some(register_change(address, before, after)),
+            [0x1F, address, _] => Some(self.register_change(address, before)),
             [0x13, ..] => Some(self.begun(after)),
             [0x10 | 0xD8, ..] if !before.is_write_enabled() => {
                 Some("nothing happens, WEL is 0".into())
@@ -391,6 +397,24 @@ impl<W: Write> Tracer<W> {
                 if outside { ", all FFh" } else { "" }
             )
         })
+    }
+
+    /// What Set Feature did to its register. The state is that before it.
+    fn register_change(&self, address: u8, before: &State) -> String {
+        let after = self.device.state();
+        match address {
+            0xA0 if before.a0 & 0x80 != 0 && before.wp == 0 => {
+                "nothing happens, BRWD is 1 and WP# is low".into()
+            }
+            0xA0 => {
+                let protected = protection::words(self.device.geometry(), after.a0);
+                format!("{:02X}h -> {:02X}h, {protected}", before.a0, after.a0)
+            }
+            0xB0 => format!("{:02X}h -> {:02X}h", before.b0, after.b0),
+            0xC0 => "nothing happens, C0h cannot be written".into(),
+            0xD0 => format!("{:02X}h -> {:02X}h", before.d0, after.d0),
+            _ => format!("nothing happens, there is no register at {address:02X}h"),
+        }
     }
 
     /// Why a program or an erase was not begun.
@@ -497,19 +521,4 @@ fn status_words(status: u8) -> String {
         words += "idle";
     }
     words
-}
-
-/// What Set Feature did to its register.
-fn register_change(address: u8, before: &State, after: &State) -> String {
-    let (old, new) = match address {
-        0xA0 if before.a0 & 0x80 != 0 && before.wp == 0 => {
-            return "nothing happens, BRWD is 1 and WP# is low".into();
-        }
-        0xA0 => (before.a0, after.a0),
-        0xB0 => (before.b0, after.b0),
-        0xC0 => return "nothing happens, C0h cannot be written".into(),
-        0xD0 => (before.d0, after.d0),
-        _ => return format!("nothing happens, there is no register at {address:02X}h"),
-    };
-    format!("{old:02X}h -> {new:02X}h")
 }
