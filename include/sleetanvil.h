@@ -72,11 +72,12 @@ enum {
 /* Addresses of the registers, for Get and Set Feature: protection, feature, status, drive strength. */
 enum { SLEET_A0 = 0xA0, SLEET_B0 = 0xB0, SLEET_C0 = 0xC0, SLEET_D0 = 0xD0 };
 
-/* Bits of the registers. */
+/* Bits of the registers. With b the BP number, A0h protects no block for b 0, and otherwise blocks / 2^(7-b) of them, rounded down: the
+   highest numbered, or the lowest with INV. */
 enum {
     SLEET_A0_BRWD = 0x80,   /* with WP# low, A0h cannot be written */
-    SLEET_A0_BP = 0x38,     /* the BP number b: for 0 no block is protected, otherwise blocks / 2^(7-b), rounded down, .. */
-    SLEET_A0_INV = 0x04,    /* .. the highest numbered, or with this bit the lowest */
+    SLEET_A0_BP = 0x38,     /* the BP number: how many blocks are protected */
+    SLEET_A0_INV = 0x04,    /* the lowest blocks, not the highest */
     SLEET_B0_ECC_E = 0x10,  /* only stored */
     SLEET_B0_QE = 0x01,     /* only stored */
     SLEET_C0_OIP = 0x01,    /* an operation is in progress */

@@ -110,32 +110,10 @@ extern "C" {
     fn sleet_counts_length(part: Geometry) -> usize;
     fn sleet_power_up() -> State;
     fn sleet_state_sound(part: Geometry, state: State) -> bool;
-    fn sleet_blank(
-        part: Geometry,
-        cells: *mut u8,
-        cells_length: usize,
-        cache: *mut u8,
-        cache_length: usize,
-        counts: *mut u8,
-        counts_length: usize,
-    ) -> u8;
     fn sleet_operation_length(part: Geometry, job: u8) -> usize;
     fn sleet_units_left(part: Geometry, state: State) -> usize;
     fn sleet_peek(part: Geometry, state: State, cache: *const u8, cache_length: usize)
         -> RawPeeked;
-    fn sleet_shift(
-        part: Geometry,
-        state: State,
-        byte: u8,
-        cells: *mut u8,
-        cells_length: usize,
-        cache: *mut u8,
-        cache_length: usize,
-        counts: *mut u8,
-        counts_length: usize,
-        out: *mut u8,
-        out_length: usize,
-    ) -> RawAnswer;
     fn sleet_next(log: *const u8, log_length: usize, place: usize) -> RawFound;
     fn sleet_write(record: RawRecord, log: *mut u8, log_length: usize, place: usize) -> RawWrote;
     fn sleet_text(refusal: u8, out: *mut u8, out_length: usize) -> usize;
@@ -215,44 +193,24 @@ pub fn peek(part: Geometry, state: State, cache: &[u8]) -> RawPeeked {
     unsafe { sleet_peek(part, state, cache.as_ptr(), cache.len()) }
 }
 
-/// `sleet_blank`.
-pub fn blank(part: Geometry, memory: &mut Memory<'_>) -> u8 {
-    let Memory {
-        cells,
-        cache,
-        counts,
-    } = memory;
-    // SAFETY: each pointer comes with the length of its own slice, and the slices do not overlap.
-    unsafe {
-        sleet_blank(
-            part,
-            cells.as_mut_ptr(),
-            cells.len(),
-            cache.as_mut_ptr(),
-            cache.len(),
-            counts.as_mut_ptr(),
-            counts.len(),
-        )
-    }
-}
-
-/// For each call on bytes, a log or those of a transfer, its declaration and a safe function.
-macro_rules! on_bytes {
-    ($($name:ident, $call:ident, $answer:ty;)*) => {
+/// For each call on lent memory its declaration and a safe function: first the plain arguments, then
+/// the bytes that go in, the memory, and the output, where the call has them.
+macro_rules! on_memory {
+    ($(
+        $name:ident, $call:ident, ($($argument:ident: $kind:ty),*), ($($bytes:ident)?), ($($out:ident)?)
+        -> $answer:ty;
+    )*) => {
         extern "C" {
             $(fn $call(
-                part: Geometry,
-                state: State,
-                bytes: *const u8,
-                length: usize,
+                $($argument: $kind,)*
+                $($bytes: *const u8, length: usize,)?
                 cells: *mut u8,
                 cells_length: usize,
                 cache: *mut u8,
                 cache_length: usize,
                 counts: *mut u8,
                 counts_length: usize,
-                out: *mut u8,
-                out_length: usize,
+                $($out: *mut u8, out_length: usize,)?
             ) -> $answer;)*
         }
 
@@ -260,11 +218,10 @@ macro_rules! on_bytes {
             #[doc = concat!("`", stringify!($call), "`.")]
             #[inline]
             pub fn $name(
-                part: Geometry,
-                state: State,
-                bytes: &[u8],
+                $($argument: $kind,)*
+                $($bytes: &[u8],)?
                 memory: &mut Memory<'_>,
-                out: &mut [u8],
+                $($out: &mut [u8],)?
             ) -> $answer {
                 let Memory {
                     cells,
@@ -275,18 +232,15 @@ macro_rules! on_bytes {
                 // not overlap.
                 unsafe {
                     $call(
-                        part,
-                        state,
-                        bytes.as_ptr(),
-                        bytes.len(),
+                        $($argument,)*
+                        $($bytes.as_ptr(), $bytes.len(),)?
                         cells.as_mut_ptr(),
                         cells.len(),
                         cache.as_mut_ptr(),
                         cache.len(),
                         counts.as_mut_ptr(),
                         counts.len(),
-                        out.as_mut_ptr(),
-                        out.len(),
+                        $($out.as_mut_ptr(), $out.len(),)?
                     )
                 }
             }
@@ -294,102 +248,20 @@ macro_rules! on_bytes {
     };
 }
 
-on_bytes! {
-    transfer, sleet_transfer, RawAnswer;
-    shifts, sleet_shifts, RawAnswer;
-    run, sleet_run, RawAnswer;
-    judge, sleet_judge, RawJudged;
-}
+on_memory! {
+    blank, sleet_blank, (part: Geometry), (), () -> u8;
 
-/// For each event that takes no output, its declaration and a safe function.
-macro_rules! events {
-    ($($name:ident, $call:ident $(, $argument:ident: $kind:ty)?;)*) => {
-        extern "C" {
-            $(fn $call(
-                part: Geometry,
-                state: State,
-                $($argument: $kind,)?
-                cells: *mut u8,
-                cells_length: usize,
-                cache: *mut u8,
-                cache_length: usize,
-                counts: *mut u8,
-                counts_length: usize,
-            ) -> RawAnswer;)*
-        }
+    transfer, sleet_transfer, (part: Geometry, state: State), (bytes), (out) -> RawAnswer;
+    shifts, sleet_shifts, (part: Geometry, state: State), (bytes), (out) -> RawAnswer;
+    run, sleet_run, (part: Geometry, state: State), (bytes), (out) -> RawAnswer;
+    judge, sleet_judge, (part: Geometry, state: State), (bytes), (out) -> RawJudged;
 
-        $(
-            #[doc = concat!("`", stringify!($call), "`.")]
-            #[inline]
-            pub fn $name(
-                part: Geometry,
-                state: State,
-                $($argument: $kind,)?
-                memory: &mut Memory<'_>,
-            ) -> RawAnswer {
-                let Memory {
-                    cells,
-                    cache,
-                    counts,
-                } = memory;
-                // SAFETY: each pointer comes with the length of its own slice, and the slices do
-                // not overlap.
-                unsafe {
-                    $call(
-                        part,
-                        state,
-                        $($argument,)?
-                        cells.as_mut_ptr(),
-                        cells.len(),
-                        cache.as_mut_ptr(),
-                        cache.len(),
-                        counts.as_mut_ptr(),
-                        counts.len(),
-                    )
-                }
-            }
-        )*
-    };
-}
-
-events! {
-    select, sleet_select;
-    deselect, sleet_deselect;
-    work, sleet_work, units: u64;
-    level, sleet_level, level: u8;
-    power, sleet_power;
-}
-
-/// `sleet_shift`.
-#[inline]
-pub fn shift(
-    part: Geometry,
-    state: State,
-    byte: u8,
-    memory: &mut Memory<'_>,
-    out: &mut [u8],
-) -> RawAnswer {
-    let Memory {
-        cells,
-        cache,
-        counts,
-    } = memory;
-    // SAFETY: each pointer comes with the length of its own slice, and the slices do not overlap.
-    unsafe {
-        sleet_shift(
-            part,
-            state,
-            byte,
-            cells.as_mut_ptr(),
-            cells.len(),
-            cache.as_mut_ptr(),
-            cache.len(),
-            counts.as_mut_ptr(),
-            counts.len(),
-            out.as_mut_ptr(),
-            out.len(),
-        )
-    }
+    select, sleet_select, (part: Geometry, state: State), (), () -> RawAnswer;
+    shift, sleet_shift, (part: Geometry, state: State, byte: u8), (), (out) -> RawAnswer;
+    deselect, sleet_deselect, (part: Geometry, state: State), (), () -> RawAnswer;
+    work, sleet_work, (part: Geometry, state: State, units: u64), (), () -> RawAnswer;
+    level, sleet_level, (part: Geometry, state: State, level: u8), (), () -> RawAnswer;
+    power, sleet_power, (part: Geometry, state: State), (), () -> RawAnswer;
 }
 
 /// `sleet_next`.

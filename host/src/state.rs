@@ -10,7 +10,9 @@ use crate::{ffi, Geometry};
 #[repr(C)]
 #[derive(Clone, Copy, Debug, PartialEq, Eq, Hash)]
 pub struct State {
-    /// Register A0h: protection.
+    /// Register A0h: protection. Bits 5 to 3 are the BP number b: for 0 no block is protected,
+    /// otherwise `blocks` / 2^(7-b) of them, rounded down, the highest numbered, or the lowest if
+    /// bit 2, INV, is 1. While bit 7, BRWD, is 1 and WP# is low, the register cannot be written.
     pub a0: u8,
     /// Register B0h: ECC_E and QE.
     pub b0: u8,
