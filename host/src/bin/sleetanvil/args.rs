@@ -32,7 +32,8 @@ options of replay; a value may also be given as --part=NAME:
                   where the file does
   --trace         print a line for each transfer and each other record, in the
                   order in which they begin. An indented line is of a record
-                  inside the transfer above it
+                  inside the transfer above it. Where A0h is written or read,
+                  or reset by a power loss, the protected blocks are named
   --bytes N       data bytes that a line of the trace shows; 16 if not given
   --judge         print `orderly`, or `not orderly` and the first reason, before
                   the last line. A log is orderly if it begins at power-up or
