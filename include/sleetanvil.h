@@ -47,7 +47,12 @@ enum {
     SLEET_BAD_KIND = 6,   /* the next kind is none of 01h to 06h; stopped before it */
     SLEET_SHORT_BODY = 7, /* the log ends inside a body; stopped before it */
     SLEET_BAD_LEVEL = 8,  /* a WP# level above 1; stopped before it */
-    SLEET_NO_ROOM = 9     /* a shift and no output room left, or too little room for a record; stopped before it */
+    SLEET_NO_ROOM = 9,    /* a shift and no output room left, or too little room for a record; stopped before it */
+    /* 14 to 16 and 20 come from a keeper of the bus alone, which is then as it was */
+    SLEET_BAD_CORE = 14,   /* a core above 3 */
+    SLEET_QUEUE_FULL = 15, /* eight transfers wait in that core's queue */
+    SLEET_ALL_EMPTY = 16,  /* no transfer waits */
+    SLEET_BAD_KEEPER = 20  /* the keeper is not sound; checked before the others */
 };
 
 /* ---- names of the device ---- */
@@ -295,13 +300,59 @@ typedef struct sleet_wrote {
 /* Write a record at a place of a log. */
 sleet_wrote sleet_write(sleet_record record, uint8_t *log, size_t log_length, size_t place);
 
+/* ---- four cores at one chip select ---- */
+
+/*
+ * A keeper of the bus says whose transfer is next where four cores share one device. Each core has a queue of at most eight waiting
+ * transfers; a transfer is a tag of one byte, which means what the caller wants it to mean. A keeper is a value, kept by the caller: it goes
+ * in whole and comes back whole. No device is touched: a grant says which transfer may go to the device, and the caller sends it there.
+ *
+ * Proved of it: grants go round, so that a core that has a transfer waiting is granted within the next four grants, whatever others add, and
+ * a transfer with n before it in its queue within the next 4 * (n + 1); each transfer that was added and not refused is granted at most once,
+ * in its core's order.
+ */
+
+/* `length` tags wait, from place `head` on, round from place 7 to 0. The other places are never looked at. */
+typedef struct sleet_queue {
+    uint8_t tags[8];
+    uint8_t head;   /* the place of the front: 0 to 7, in an empty queue too */
+    uint8_t length; /* how many wait: 0 to 8 */
+} sleet_queue;
+
+/* Sound if each `head`, each `length` and `last` are in range. One that came back from a call on a sound one is sound. */
+typedef struct sleet_keeper {
+    sleet_queue queues[4]; /* one for each core */
+    uint8_t last;          /* the core that was granted last: 0 to 3 */
+} sleet_keeper;
+
+/* Four empty queues; `last` is 3, so that the first grant looks from core 0. */
+sleet_keeper sleet_keeper_new(void);
+
+typedef struct sleet_added {
+    sleet_keeper keeper; /* as it was where the adding is refused */
+    uint8_t refusal;     /* 0; or, the first that holds: 20, 14, 15 */
+} sleet_added;
+
+/* Add a transfer at the back of a core's queue. */
+sleet_added sleet_keeper_add(sleet_keeper keeper, uint8_t core, uint8_t tag);
+
+typedef struct sleet_granted {
+    sleet_keeper keeper; /* as it was where the grant is refused */
+    uint8_t refusal;     /* 0; or, the first that holds: 20, 16 */
+    uint8_t core;        /* whose transfer it is; 0 where it is refused */
+    uint8_t tag;         /* the transfer; 0 where it is refused */
+} sleet_granted;
+
+/* Take the transfer that is next: the front of the first queue that is not empty, from the core after `last`, round from 3 to 0. */
+sleet_granted sleet_keeper_grant(sleet_keeper keeper);
+
 /* ---- words ---- */
 
 enum { SLEET_TEXT = 48 }; /* room for every text and its NUL */
 
 /*
  * What a number of refusal means, in a few English words, with a NUL behind them. The length without the NUL is returned; where the text
- * and its NUL do not fit, 0 is returned and nothing is written. A number above 9 has the text "no such refusal".
+ * and its NUL do not fit, 0 is returned and nothing is written. A number that no refusal has gets the text "no such refusal".
  */
 size_t sleet_text(uint8_t refusal, char *out, size_t out_length);
 
