@@ -304,12 +304,12 @@ sleet_wrote sleet_write(sleet_record record, uint8_t *log, size_t log_length, si
 
 /*
  * A keeper of the bus says whose transfer is next where four cores share one device. Each core has a queue of at most eight waiting
- * transfers; a transfer is a tag of one byte, which means what the caller wants it to mean. A keeper is a value, kept by the caller: it goes
- * in whole and comes back whole. No device is touched: a grant says which transfer may go to the device, and the caller sends it there.
+ * transfers; a transfer is a tag of one byte, which means what the caller wants it to mean. A keeper is a value, kept by the caller: it
+ * goes in whole and comes back whole. No device is touched: a grant says which transfer may go to the device, and the caller sends it.
  *
- * Proved of it: grants go round, so that a core that has a transfer waiting is granted within the next four grants, whatever others add, and
- * a transfer with n before it in its queue within the next 4 * (n + 1); each transfer that was added and not refused is granted at most once,
- * in its core's order.
+ * Proved of it: grants go round, so that a core that has a transfer waiting is granted within the next four grants, whatever others add,
+ * and a transfer with n before it in its queue within the next 4 * (n + 1); each transfer that was added and not refused is granted at most
+ * once, in its core's order.
  */
 
 /* `length` tags wait, from place `head` on, round from place 7 to 0. The other places are never looked at. */
