@@ -1,2 +1,5 @@
 pub mod Searches
 pub mod Sound
+pub mod Rings
+pub mod Laws
+pub mod OneAnswer

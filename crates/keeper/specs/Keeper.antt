@@ -74,11 +74,13 @@ numberOf BadKeeper = 20
 
 -- ---- a new keeper
 
--- nothing waits, and at first a grant looks from core 0, the core after core 3
+-- nothing waits
+abbrev pub emptyQueue : Queue
+emptyQueue = queue (0 ∷ 0 ∷ 0 ∷ 0 ∷ 0 ∷ 0 ∷ 0 ∷ 0 ∷ []) 0 0
+
+-- at first a grant looks from core 0, the core after core 3
 abbrev pub newKeeper : Keeper
-newKeeper =
-    let q = queue (0 ∷ 0 ∷ 0 ∷ 0 ∷ 0 ∷ 0 ∷ 0 ∷ 0 ∷ []) 0 0 in
-    record { queues = q ∷ q ∷ q ∷ q ∷ []; last = 3 }
+newKeeper = record { queues = emptyQueue ∷ emptyQueue ∷ emptyQueue ∷ emptyQueue ∷ []; last = 3 }
 
 -- ---- adding goes to the back of a core's queue
 

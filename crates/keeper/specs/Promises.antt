@@ -84,4 +84,4 @@ GrantsInTurn = (k : Keeper) → Formed k → grantOf k .refused ≡ Not → InTu
 
 -- nothing waits in a new keeper, and the core after its last granted is core 0
 abbrev pub NewKeeper : Type 0
-NewKeeper = ((core : ℕ) → waiting newKeeper core ≡ []) × ((newKeeper .last + 1) % 4 ≡ 0)
+NewKeeper = ((core : ℕ) → core < 4 → waiting newKeeper core ≡ []) × ((newKeeper .last + 1) % 4 ≡ 0)
