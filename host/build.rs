@@ -4,19 +4,28 @@
 //! whole path, else in `../target/staticlib`.
 
 use std::env;
+use std::fs;
 use std::path::PathBuf;
 use std::process;
 
 const ARCHIVE: &str = "libsleetanvil.a";
+
+/// A function of the archive's last crate: one that `rt staticlib` made of a single crate lacks it.
+const LAST: &[u8] = b"sleet_keeper_new";
 
 fn main() {
     println!("cargo:rerun-if-env-changed=SLEETANVIL_LIB");
     let folder = folder();
     let archive = folder.join(ARCHIVE);
     println!("cargo:rerun-if-changed={}", archive.display());
-    if !archive.is_file() {
-        eprintln!("error: {} is not there.", archive.display());
-        eprintln!("Make it with `rt staticlib sleetanvil`,");
+    let found = fs::read(&archive).unwrap_or_default();
+    if !found.windows(LAST.len()).any(|bytes| bytes == LAST) {
+        let lack = match archive.is_file() {
+            true => "does not have all functions",
+            false => "is not there",
+        };
+        eprintln!("error: {} {lack}.", archive.display());
+        eprintln!("Make it with `bash make-archive`, in the project's folder,");
         eprintln!("or set SLEETANVIL_LIB to the folder that holds {ARCHIVE}.");
         process::exit(1);
     }

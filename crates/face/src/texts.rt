@@ -96,7 +96,11 @@ pub fn lay_text(refusal: u8, out: &mut [u8]) -> usize
         \x06the next kind is none of 01h to 06h\0\
         \x07the log ends inside a body\0\
         \x08a WP# level above 1\0\
-        \x09no output room, or too little for a record\0",
+        \x09no output room, or too little for a record\0\
+        \x0Ea core above 3\0\
+        \x0Feight transfers wait in that queue\0\
+        \x10no transfer waits\0\
+        \x14the keeper is not sound\0",
         refusal,
         out,
     )
