@@ -14,8 +14,8 @@ use Rattle.keeper.specs.Keeper.{waiting, waitingIn, soundFrom, keeperSound, new
 use Rattle.keeper.specs.Promises.{GrantExactly, one-waits, RefusedLeaves, Good, KeptSound, AddsAtBack, InTurn, GrantsInTurn}
 use Rattle.rounds.specs.Rounds.{Call, adding, granting, calledAll, grants, grantGiven, allGiven, toCore, grantedTo, forCore, onlyAdding}
 use Rattle.rounds.specs.Promises.{Within, WithinFour, Comes, InTime, FourNeeded, FirstFromZero}
-use Rattle.rounds.proofs.Answers.{Answer, given, denied, answer, same-refusal}
-use Rattle.rounds.proofs.Order.{stays-good, add-waits}
+use Rattle.rounds.proofs.Answers.{same-refusal}
+use Rattle.rounds.proofs.Order.{stays-good, add-waits, add-last}
 
 -- ---- among some answers
 
@@ -84,13 +84,6 @@ Due core xs =
     d + 4 * length before ≤ length (grants k xs) → Comes (d + 4 * length before) core before tag (grants k xs)
 
 module _ (grant-exactly : GrantExactly) (refused-leaves : RefusedLeaves) (kept-sound : KeptSound) (adds-at-back : AddsAtBack) (grants-in-turn : GrantsInTurn) where
-  add-last : (k : Keeper) → Good k → (core tag : ℕ) → addOf k core tag .keeper .last ≡ k .last
-  add-last k g core tag = by (answer (addOf k core tag .refused))
-    where
-      by : Answer (addOf k core tag .refused) → addOf k core tag .keeper .last ≡ k .last
-      by (given r t) = adds-at-back k (g .formed) core tag r .last
-      by (denied r t) = rw (refused-leaves k .0 core tag r)
-
   -- where one waits a grant is not refused
   grant-given : (k : Keeper) → Good k → (core : ℕ) → core < 4 → ¬ (waiting k core ≡ []) → grantOf k .refused ≡ Not
   grant-given k g core h w = same-refusal (grantOf k .refused) Not (grant-exactly k 0 .1 (one-waits (g .sound) core (omega arith) w))
@@ -151,7 +144,7 @@ module _ (grant-exactly : GrantExactly) (refused-leaves : RefusedLeaves) (kept-s
   unfolding grants
   due core [] k g d l u e before tag after w n = let z : ⊥ = omega arith in absurd z
   due core (adding c t ∷ xs) k g d l u e before tag after w n =
-      due core xs (addOf k c t .keeper) (kept-sound .1 k g .0 c t) d l u (rw (add-last k g c t) e) before tag (after ++ forCore core c t (addOf k c t))
+      due core xs (addOf k c t .keeper) (kept-sound .1 k g .0 c t) d l u (rw (add-last refused-leaves kept-sound adds-at-back grants-in-turn k g c t) e) before tag (after ++ forCore core c t (addOf k c t))
       (add-waits refused-leaves kept-sound adds-at-back grants-in-turn k g c t core ∙ ap (λ (l : List ℕ). l ++ forCore core c t (addOf k c t)) w ∙ append-assoc before (tag ∷ after) (forCore core c t (addOf k c t)))
       n
   due core (granting ∷ xs) k g d l u e before tag after w n = due-grant core xs (due core xs) k g d l u e before tag after w n
@@ -174,7 +167,7 @@ module _ (grant-exactly : GrantExactly) (refused-leaves : RefusedLeaves) (kept-s
   last-stays : (xs : List Call) (k : Keeper) → Good k → T (onlyAdding xs) → calledAll k xs .last ≡ k .last
   unfolding calledAll onlyAdding
   last-stays [] k g o = refl
-  last-stays (adding core tag ∷ xs) k g o = last-stays xs (addOf k core tag .keeper) (kept-sound .1 k g .0 core tag) o ∙ add-last k g core tag
+  last-stays (adding core tag ∷ xs) k g o = last-stays xs (addOf k core tag .keeper) (kept-sound .1 k g .0 core tag) o ∙ add-last refused-leaves kept-sound adds-at-back grants-in-turn k g core tag
   last-stays (granting ∷ xs) k g o = absurd o
 
   pub first-from-zero : FirstFromZero

@@ -33,6 +33,13 @@ module _ (refused-leaves : RefusedLeaves) (kept-sound : KeptSound) (adds-at-back
       by (given r t) = rw t (placed (eqb d core) refl (adds-at-back k (g .formed) d tag r))
       by (denied r t) = rw (t, refused-leaves k .0 d tag r) (sym (append-nil (waiting k core)))
 
+  pub add-last : (k : Keeper) → Good k → (core tag : ℕ) → addOf k core tag .keeper .last ≡ k .last
+  add-last k g core tag = by (answer (addOf k core tag .refused))
+    where
+      by : Answer (addOf k core tag .refused) → addOf k core tag .keeper .last ≡ k .last
+      by (given r t) = adds-at-back k (g .formed) core tag r .last
+      by (denied r t) = rw (refused-leaves k .0 core tag r)
+
   -- what a grant does to what waits for a core
   pub grant-waits : (k : Keeper) → Good k → (core : ℕ) → toCore core (grantOf k) ++ waiting (grantOf k .keeper) core ≡ waiting k core
   grant-waits k g core = by (answer (grantOf k .refused))
