@@ -1,5 +1,5 @@
 -- Whether a call is refused, from its refusal.
-use mathlib.Core.Bool.{Bool, true, false}
+use mathlib.Core.Bool.{true, false}
 use mathlib.Core.Path.{_≡_, refl, sym, ap, _∙_}
 use Prim.Native.Nat.{ℕ}
 use native.Mathlib.Omega.{arith}
@@ -21,7 +21,7 @@ answer QueueFull = denied (λ e. let z : _≡_ {A = ℕ} 0 1 = cc in omega arith
 answer AllEmpty = denied (λ e. let z : _≡_ {A = ℕ} 0 1 = cc in omega arith) refl
 answer BadKeeper = denied (λ e. let z : _≡_ {A = ℕ} 0 1 = cc in omega arith) refl
 
--- refusals with the same number are the same
+-- the refusal of a number
 abbrev refusedBy : ℕ → Refused
 refusedBy n = if eqb n 0 then Not else if eqb n 14 then BadCore else if eqb n 15 then QueueFull else if eqb n 16 then AllEmpty else BadKeeper
 
@@ -32,5 +32,6 @@ number-told QueueFull = refl
 number-told AllEmpty = refl
 number-told BadKeeper = refl
 
+-- refusals with the same number are the same
 pub same-refusal : (r s : Refused) → numberOf r ≡ numberOf s → r ≡ s
 same-refusal r s e = sym (number-told r) ∙ ap refusedBy e ∙ number-told s
