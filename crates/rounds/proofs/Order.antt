@@ -10,7 +10,7 @@ use Rattle.keeper.specs.declared.Keeper.{Keeper}
 use Rattle.keeper.specs.Keeper.{waiting, waitingIn, addOf, grantOf}
 use Rattle.keeper.specs.Promises.{Good, AtBack, InTurn}
 use Rattle.keeper.proofs.Laws.{refused-leaves, kept-sound, adds-at-back, grants-in-turn}
-use Rattle.rounds.specs.Rounds.{Call, adding, granting, calledAll, grants, toCore, grantedTo, forCore, addedFor}
+use Rattle.rounds.specs.Rounds.{adding, granting, calledAll, grants, toCore, grantedTo, forCore, addedFor}
 use Rattle.rounds.specs.Promises.{StaysGood, InOrder}
 use Rattle.rounds.proofs.Answers.{Answer, given, denied, answer}
 
