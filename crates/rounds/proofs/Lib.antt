@@ -1,0 +1,4 @@
+pub mod Answers
+pub mod Order
+pub mod Fair
+pub mod Unseen
