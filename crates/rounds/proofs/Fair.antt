@@ -10,7 +10,7 @@ use lib.ListN.{length}
 use Rattle.keeper.specs.declared.Keeper.{Keeper}
 use Rattle.keeper.specs.declared.Granted.{Granted}
 use Rattle.keeper.specs.declared.Refused.the-variants.{Not}
-use Rattle.keeper.specs.Keeper.{waiting, waitingIn, soundFrom, keeperSound, newKeeper, addOf, firstFrom, grantOf}
+use Rattle.keeper.specs.Keeper.{tagsFrom, waiting, waitingIn, soundFrom, keeperSound, newKeeper, addOf, firstFrom, grantOf}
 use Rattle.keeper.specs.Promises.{one-waits, Good, InTurn}
 use Rattle.keeper.proofs.Laws.{grant-exactly, kept-sound, grants-in-turn}
 use Rattle.rounds.specs.Rounds.{Call, adding, granting, calledAll, grants, grantGiven, allGiven, toCore, grantedTo, forCore, onlyAdding}
@@ -171,8 +171,8 @@ within-four k g xs core h w n = by (waiting k core) refl
 -- ---- four is needed
 
 pub four-needed : FourNeeded
-unfolding keeperSound soundFrom addOf firstFrom grantOf grants grantedTo
-four-needed = refl
+unfolding tagsFrom keeperSound soundFrom addOf firstFrom grantOf grants allGiven calledAll
+four-needed = (tt, refl, refl)
 
 -- ---- at first
 

@@ -58,13 +58,13 @@ grant-waits k g core = by (answer (grantOf k .refused))
 
 pub in-order : InOrder
 unfolding calledAll grants grantedTo addedFor
-in-order k g [] core h = sym (append-nil (waiting k core))
-in-order k g (adding d tag ∷ xs) core h =
-    in-order (addOf k d tag .keeper) (kept-sound .1 k g .0 d tag) xs core h
+in-order k g [] core = sym (append-nil (waiting k core))
+in-order k g (adding d tag ∷ xs) core =
+    in-order (addOf k d tag .keeper) (kept-sound .1 k g .0 d tag) xs core
     ∙ ap (λ (l : List ℕ). l ++ addedFor core (addOf k d tag .keeper) xs) (add-waits k g d tag core)
     ∙ append-assoc (waiting k core) (forCore core d tag (addOf k d tag)) (addedFor core (addOf k d tag .keeper) xs)
-in-order k g (granting ∷ xs) core h =
+in-order k g (granting ∷ xs) core =
     append-assoc (toCore core (grantOf k)) (grantedTo core (grants (grantOf k .keeper) xs)) (waiting (calledAll (grantOf k .keeper) xs) core)
-    ∙ ap (λ (l : List ℕ). toCore core (grantOf k) ++ l) (in-order (grantOf k .keeper) (kept-sound .1 k g .1) xs core h)
+    ∙ ap (λ (l : List ℕ). toCore core (grantOf k) ++ l) (in-order (grantOf k .keeper) (kept-sound .1 k g .1) xs core)
     ∙ sym (append-assoc (toCore core (grantOf k)) (waiting (grantOf k .keeper) core) (addedFor core (grantOf k .keeper) xs))
     ∙ ap (λ (l : List ℕ). l ++ addedFor core (grantOf k .keeper) xs) (grant-waits k g core)

@@ -7,8 +7,8 @@ use Rattle.keeper.specs.declared.Keeper.{Keeper}
 use Rattle.keeper.specs.declared.Granted.{Granted}
 use Rattle.keeper.specs.Keeper.{waiting, SoundKeeper, numberOf, addOf, grantOf}
 use Rattle.keeper.specs.Promises.{AddLine, GrantLine, Good, InTurn}
-use Rattle.keeper.proofs.Laws.{add-exactly, grant-exactly, refused-leaves, grants-in-turn}
-use Rattle.rounds.specs.Rounds.{toCore}
+use Rattle.keeper.proofs.Laws.{add-exactly, grant-exactly, refused-leaves, kept-sound, grants-in-turn}
+use Rattle.rounds.specs.Rounds.{adding, granting, calledAll, answeredAll, toCore}
 use Rattle.rounds.specs.Promises.{Alike, Unseen}
 use Rattle.rounds.proofs.Answers.{Answer, given, denied, answer, same-refusal}
 use Rattle.rounds.proofs.Order.{add-waits, add-last, grant-waits}
@@ -103,6 +103,14 @@ module _ (k j : Keeper) (g : Good k) (z : Good j) (a : Alike k j) where
       waits d h = cancel (toCore d (grantOf k)) (waiting (grantOf k .keeper) d) (waiting (grantOf j .keeper) d)
           (grant-waits k g d ∙ a .waits d h ∙ rw (same d) (sym (grant-waits j z d)))
 
+-- ---- any calls
+
 pub unseen : Unseen
-unseen k j g z a =
-    (λ core tag. (add-refusal k j g z a core tag, add-alike k j g z a core tag), grant-refusal k j g z a, grant-same k j g z a .core, grant-same k j g z a .tag, grant-alike k j g z a)
+unfolding calledAll answeredAll
+unseen k j g z a [] = (refl, a)
+unseen k j g z a (adding core tag ∷ xs) =
+    let on = unseen (addOf k core tag .keeper) (addOf j core tag .keeper) (kept-sound .1 k g .0 core tag) (kept-sound .1 j z .0 core tag) (add-alike k j g z a core tag) xs in
+    (rw (add-refusal k j g z a core tag, on .0), on .1)
+unseen k j g z a (granting ∷ xs) =
+    let on = unseen (grantOf k .keeper) (grantOf j .keeper) (kept-sound .1 k g .1) (kept-sound .1 j z .1) (grant-alike k j g z a) xs in
+    (rw (grant-refusal k j g z a, grant-same k j g z a .core, grant-same k j g z a .tag, on .0), on .1)

@@ -7,9 +7,9 @@ use lib.ListN.{length}
 use Rattle.keeper.specs.declared.Keeper.{Keeper}
 use Rattle.keeper.specs.declared.Granted.{Granted}
 use Rattle.keeper.specs.declared.Refused.the-variants.{Not}
-use Rattle.keeper.specs.Keeper.{waiting, newKeeper, addOf, grantOf}
+use Rattle.keeper.specs.Keeper.{waiting, newKeeper, grantOf}
 use Rattle.keeper.specs.Promises.{Good}
-use Rattle.rounds.specs.Rounds.{Call, adding, granting, calledAll, grants, allGiven, grantedTo, addedFor, onlyAdding}
+use Rattle.rounds.specs.Rounds.{Call, adding, granting, calledAll, answeredAll, grants, allGiven, grantedTo, addedFor, onlyAdding}
 
 -- a good keeper stays good
 abbrev pub StaysGood : Type 0
@@ -20,7 +20,7 @@ StaysGood = (k : Keeper) → Good k → (xs : List Call) → Good (calledAll k x
 
 abbrev pub InOrder : Type 0
 InOrder =
-    (k : Keeper) → Good k → (xs : List Call) (core : ℕ) → core < 4 →
+    (k : Keeper) → Good k → (xs : List Call) (core : ℕ) →
     grantedTo core (grants k xs) ++ waiting (calledAll k xs) core ≡ waiting k core ++ addedFor core k xs
 
 -- ---- fairness
@@ -52,11 +52,13 @@ InTime =
     (k : Keeper) → Good k → (xs : List Call) (core : ℕ) → core < 4 → (before : List ℕ) (tag : ℕ) (after : List ℕ) → waiting k core ≡ before ++ (tag ∷ after) →
     4 * (length before + 1) ≤ length (grants k xs) → Comes (4 * (length before + 1)) core before tag (grants k xs)
 
--- four is no more than is needed: where each core of a new keeper has one transfer, core 3 has none of the first three grants
+-- four is no more than is needed: where each core of a new keeper has one transfer, three grants are given and core 3 still waits
 abbrev pub FourNeeded : Type 0
-FourNeeded = grantedTo 3 (grants newKeeper (adding 0 10 ∷ adding 1 11 ∷ adding 2 12 ∷ adding 3 13 ∷ granting ∷ granting ∷ granting ∷ [])) ≡ []
+FourNeeded =
+    let xs = adding 0 10 ∷ adding 1 11 ∷ adding 2 12 ∷ adding 3 13 ∷ granting ∷ granting ∷ granting ∷ [] in
+    T (allGiven (grants newKeeper xs)) × (length (grants newKeeper xs) ≡ 3) × (waiting (calledAll newKeeper xs) 3 ≡ 13 ∷ [])
 
--- ---- at first, from core 0: before any grant, the core that is granted is the lowest that has a transfer waiting
+-- ---- at first, from core 0: nothing waits for a core below the one that is granted first
 
 abbrev pub FirstFromZero : Type 0
 FirstFromZero =
@@ -70,12 +72,8 @@ pub record Alike (k j : Keeper) : Type 0 where
   pub waits : (core : ℕ) → core < 4 → waiting k core ≡ waiting j core
   pub last : k .last ≡ j .last
 
--- then the same is answered, and the two stay alike
+-- then all calls answer the same, and the two stay alike
 abbrev pub Unseen : Type 0
 Unseen =
-    (k j : Keeper) → Good k → Good j → Alike k j →
-    ((core tag : ℕ) → (addOf k core tag .refused ≡ addOf j core tag .refused) × Alike (addOf k core tag .keeper) (addOf j core tag .keeper))
-    × (grantOf k .refused ≡ grantOf j .refused)
-    × (grantOf k .core ≡ grantOf j .core)
-    × (grantOf k .tag ≡ grantOf j .tag)
-    × Alike (grantOf k .keeper) (grantOf j .keeper)
+    (k j : Keeper) → Good k → Good j → Alike k j → (xs : List Call) →
+    (answeredAll k xs ≡ answeredAll j xs) × Alike (calledAll k xs) (calledAll j xs)

@@ -24,6 +24,21 @@ unfoldable pub calledAll : Keeper → List Call → Keeper
 calledAll k [] = k
 calledAll k (x ∷ xs) = calledAll (called k x) xs
 
+-- what a call answers beside the keeper: the number of its refusal, and of a grant the core and the tag
+pub record Answered : Type 0 where
+  pub number : ℕ
+  pub core : ℕ
+  pub tag : ℕ
+
+abbrev pub answered : Keeper → Call → Answered
+answered k (adding core tag) = record { number = numberOf (addOf k core tag .refused); core = 0; tag = 0 }
+answered k granting = record { number = numberOf (grantOf k .refused); core = grantOf k .core; tag = grantOf k .tag }
+
+-- what some calls answer, in their order
+unfoldable pub answeredAll : Keeper → List Call → List Answered
+answeredAll k [] = []
+answeredAll k (x ∷ xs) = answered k x ∷ answeredAll (called k x) xs
+
 -- the answers to the grants asked among some calls, in their order
 unfoldable pub grants : Keeper → List Call → List Granted
 grants k [] = []
