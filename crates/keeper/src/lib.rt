@@ -198,12 +198,12 @@ impl Keeper {
         requires { ⌜ (core < 4) × (queueAt self core .head < 8) × (0 < queueAt self core .length) ⌝ }
         ensures { λ r. ⌜ r ≡ takenFrom self core ⌝ }
     {
-        let q = self.queue(core);
+        let own = self.queue(core);
         Granted {
-            keeper: self.with(core, q.rest(), core),
+            keeper: self.with(core, own.rest(), core),
             refused: Refused::Not,
             core,
-            tag: q.front(),
+            tag: own.front(),
         }
     }
 
