@@ -43,7 +43,7 @@ pub struct Granted {
 }
 
 // Whose turn it is.
-pub enum Turn {
+enum Turn {
     Of(u8),
     Nobody,
 }
