@@ -1,5 +1,2 @@
 pub mod ThereAndBack
-pub mod Words
-pub mod Scans
-pub mod Laying
 pub mod OneAnswer

@@ -5,7 +5,6 @@ use Prim.Native.Nat.{ℕ}
 use denote.Ref.{now}
 use Rattle.part.specs.OneAnswer.{OneAnswer, OneEnd}
 use Rattle.face.specs.Records.{CPut}
-use Rattle.face.specs.Text.{CLaid}
 use Rattle.face.proofs.part_of.Reads as part-of-reads
 use Rattle.face.proofs.part_of.Kinds as part-of-kinds
 use Rattle.face.proofs.face_part.Reads as face-part-reads
@@ -30,8 +29,6 @@ use Rattle.face.proofs.records.found_at.Reads as found-at-reads
 use Rattle.face.proofs.records.found_at.Kinds as found-at-kinds
 use Rattle.face.proofs.records.write_entry.Reads as write-entry-reads
 use Rattle.face.proofs.records.write_entry.Kinds as write-entry-kinds
-use Rattle.face.proofs.texts.lay_text.Reads as lay-text-reads
-use Rattle.face.proofs.texts.lay_text.Kinds as lay-text-kinds
 
 pub part-of-one : OneAnswer 0 part-of-kinds.ps part-of-kinds.r part-of-reads.Post
 part-of-one κs a x y s t p q = p ∙ sym q
@@ -68,6 +65,3 @@ found-at-one κs a x y s t p q = p ∙ sym q
 
 pub write-entry-one : OneEnd 1 write-entry-kinds.ps write-entry-kinds.r (List ℕ) (λ κs s. now (s .1 .0)) write-entry-reads.Post
 write-entry-one κs a x y s t p q = (ap (λ (w : CPut). w .answer) (p ∙ sym q), ap (λ (w : CPut). w .log) (p ∙ sym q))
-
-pub lay-text-one : OneEnd 1 lay-text-kinds.ps lay-text-kinds.r (List ℕ) (λ κs s. now (s .1 .0)) lay-text-reads.Post
-lay-text-one κs a x y s t p q = (ap (λ (w : CLaid). w .count) (p ∙ sym q), ap (λ (w : CLaid). w .out) (p ∙ sym q))

@@ -1,4 +1,3 @@
 pub mod Face
 pub mod Records
-pub mod Text
 pub mod Promises

@@ -3,7 +3,6 @@ ghost use mathlib.Core.Path.{_≡_};
 ghost use Rattle.face.specs.Face.{partOf, facePart, cellsLength, cacheLength, countsLength, instructionAt, workAt, stateAs, stateOf, flag, faced, facedJob, faceOf, soundTold, noState, standIn, handedBack};
 
 pub mod records;
-pub mod texts;
 
 use array::Job;
 use array::Work;

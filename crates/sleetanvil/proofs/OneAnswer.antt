@@ -5,8 +5,8 @@ use Prim.Native.Nat.{ℕ}
 use denote.Ref.{now}
 use Rattle.part.specs.OneAnswer.{OneAnswer, OneEnd}
 use Rattle.face.specs.Records.{CPut}
-use Rattle.face.specs.Text.{CLaid}
 use Rattle.face.specs.declared.CJudged.{CJudged}
+use Rattle.texts.specs.Text.{CLaid}
 use Rattle.sleetanvil.specs.Runs.{CEnd, CQuiet, CJudgement}
 use Rattle.sleetanvil.specs.Beside.{CBlank}
 use Rattle.sleetanvil.proofs.sleet_version.Reads as sleet-version-reads

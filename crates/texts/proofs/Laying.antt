@@ -7,8 +7,8 @@ use Prim.Native.Nat.{ℕ, suc, _+_, _≤_, _<_}
 use lib.ListN.{length, take, drop, set, getD, length-set}
 use lib.Seq.{take-length, take-suc, drop-cons, append-snoc, set-at, length-take-le}
 use borrow.Author.Tests.{le-leb, lt-leb}
-use Rattle.face.specs.Text.{upToNul, faceLaid, textLaid}
-use Rattle.face.proofs.Scans.{same-byte, goes-on, has-ended}
+use Rattle.texts.specs.Text.{upToNul, faceLaid, textLaid}
+use Rattle.texts.proofs.Scans.{same-byte, goes-on, has-ended}
 
 -- one more byte of a text
 copied-more : (text l : List ℕ) (i : ℕ) → i < length text → i < length l → set (take i text ++ drop i l) i (getD text i 0) ≡ take (i + 1) text ++ drop (i + 1) l

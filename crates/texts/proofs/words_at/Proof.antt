@@ -5,10 +5,10 @@ use Prim.Native.Nat.{_≤_, _-_}
 use native.Mathlib.Omega.{arith}
 use borrow.Author.Needs.{needs}
 use lib.ListN.{length, drop}
-use Rattle.face.specs.Text.{behindNumber}
-use Rattle.face.proofs.Scans.{hit, missed, none-left}
-use Rattle.face.proofs.texts.words_at.Statement.{statement}
-use Rattle.face.proofs.texts.words_at.Tie as tie
+use Rattle.texts.specs.Text.{behindNumber}
+use Rattle.texts.proofs.Scans.{hit, missed, none-left}
+use Rattle.texts.proofs.words_at.Statement.{statement}
+use Rattle.texts.proofs.words_at.Tie as tie
 
 abbrev Inv-loop : tie.InvT-loop
 Inv-loop table n inside₀ i₀ inside i = (i ≤ length table) × (behindNumber inside n table (drop i table) ≡ behindNumber true n table table)

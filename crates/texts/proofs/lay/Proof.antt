@@ -3,10 +3,10 @@ use Prim.Native.Nat.{_-_}
 use native.Mathlib.Omega.{arith}
 use borrow.Author.Needs.{needs}
 use lib.ListN.{length, length-set}
-use Rattle.face.specs.Text.{upToNul}
-use Rattle.face.proofs.Laying.{too-short, Copying, begun, left, copied, laid-whole}
-use Rattle.face.proofs.texts.lay.Statement.{statement}
-use Rattle.face.proofs.texts.lay.Tie as tie
+use Rattle.texts.specs.Text.{upToNul}
+use Rattle.texts.proofs.Laying.{too-short, Copying, begun, left, copied, laid-whole}
+use Rattle.texts.proofs.lay.Statement.{statement}
+use Rattle.texts.proofs.lay.Tie as tie
 
 abbrev Inv-loop : tie.InvT-loop
 Inv-loop row out₀ i₀ b₀ out i b = Copying row out₀ out i b

@@ -11,7 +11,7 @@ use lib.ListN.{length, drop, getD, drop-of-length-le, List·getD-eq-default}
 use lib.Seq.{drop-cons}
 use borrow.Author.Tests.{eqb-true, ltb-true, ltb-false}
 use Rattle.part.proofs.Choice.{cond-keep}
-use Rattle.face.specs.Text.{upToNul, behindNumber}
+use Rattle.texts.specs.Text.{upToNul, behindNumber}
 
 module _ (l other : List ℕ) (n i : ℕ) (inside : Bool) where
   -- the number of a row is found

@@ -4,7 +4,7 @@ ghost use mathlib.Core.Path.{_≡_};
 ghost use Prim.Native.Nat.{_≤_};
 ghost use lib.Dec.{eqb};
 ghost use lib.ListN.{length, drop, getD};
-ghost use Rattle.face.specs.Text.{textOf, upToNul, behindNumber, faceLaid, textLaid};
+ghost use Rattle.texts.specs.Text.{textOf, upToNul, behindNumber, faceLaid, textLaid};
 
 // Whether a byte of a table begins the row of a number.
 fn row_of(inside: bool, b: u8, n: u8) -> bool

@@ -4,10 +4,10 @@ use mathlib.Core.Path.{ap, _∙_}
 use Prim.Native.Nat.{ℕ}
 use borrow.Author.Needs.{needs}
 use denote.Ref.{now}
-use Rattle.face.specs.Text.{meanings, bytes, textLaid}
-use Rattle.face.proofs.Words.{rowsOf, table, said}
-use Rattle.face.proofs.texts.lay_text.Statement.{statement}
-use Rattle.face.proofs.texts.lay_text.Tie as tie
+use Rattle.texts.specs.Text.{meanings, bytes, textLaid}
+use Rattle.texts.proofs.Words.{rowsOf, table, said}
+use Rattle.texts.proofs.lay_text.Statement.{statement}
+use Rattle.texts.proofs.lay_text.Tie as tie
 
 slice-aggregate-lay-words : tie.Need-slice-aggregate-lay-words
 slice-aggregate-lay-words c = search needs

@@ -8,8 +8,8 @@ use lib.Dec.{T, eqb, ltb}
 use lib.ListN.{length}
 use borrow.Author.Tests.{ltb-true, not-true}
 use Rattle.part.proofs.Choice.{cond-no, cond-keep, cond-two, T-true, and-l, and-r}
-use Rattle.face.specs.Promises.{TextFits}
-use Rattle.face.specs.Text.{Meaning, meanings, unmeant, wordsAmong, bytes, textOf, upToNul, behindNumber}
+use Rattle.texts.specs.Promises.{TextFits}
+use Rattle.texts.specs.Text.{Meaning, meanings, unmeant, wordsAmong, bytes, textOf, upToNul, behindNumber}
 
 -- ---- what is asked of all words: no NUL among them, and room in 48 bytes
 

@@ -1,6 +1,6 @@
 -- Words go on but for behind their NUL; and behind a number they begin.
-use Rattle.face.proofs.texts.within.Statement.{statement}
-use Rattle.face.proofs.texts.within.Tie as tie
+use Rattle.texts.proofs.within.Statement.{statement}
+use Rattle.texts.proofs.within.Tie as tie
 
 returns : tie.Need-returns
 returns c = rw (c .if1 .taken)

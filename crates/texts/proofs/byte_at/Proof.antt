@@ -3,8 +3,8 @@ use mathlib.Core.Path.{sym}
 use borrow.Author.Needs.{needs}
 use denote.Ref.{now}
 use lib.ListN.{List·getD-eq-default}
-use Rattle.face.proofs.texts.byte_at.Statement.{statement}
-use Rattle.face.proofs.texts.byte_at.Tie as tie
+use Rattle.texts.proofs.byte_at.Statement.{statement}
+use Rattle.texts.proofs.byte_at.Tie as tie
 
 shared-slice-read-result : tie.Need-shared-slice-read-result
 shared-slice-read-result c = search needs

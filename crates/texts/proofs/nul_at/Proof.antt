@@ -5,10 +5,10 @@ use native.Mathlib.Omega.{arith}
 use borrow.Author.Needs.{needs}
 use denote.Ref.{now}
 use lib.ListN.{length}
-use Rattle.face.specs.Text.{upToNul}
-use Rattle.face.proofs.Scans.{words-short, goes-on, has-ended}
-use Rattle.face.proofs.texts.nul_at.Statement.{statement}
-use Rattle.face.proofs.texts.nul_at.Tie as tie
+use Rattle.texts.specs.Text.{upToNul}
+use Rattle.texts.proofs.Scans.{words-short, goes-on, has-ended}
+use Rattle.texts.proofs.nul_at.Statement.{statement}
+use Rattle.texts.proofs.nul_at.Tie as tie
 
 abbrev Inv-loop : tie.InvT-loop
 Inv-loop row i₀ i = i ≤ length (upToNul row)

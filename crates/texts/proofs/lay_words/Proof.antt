@@ -5,8 +5,8 @@ use borrow.Author.Needs.{needs}
 use denote.Ref.{now}
 use lib.ListN.{length, drop, length-drop}
 use lib.Seq.{take-all}
-use Rattle.face.proofs.texts.lay_words.Statement.{statement}
-use Rattle.face.proofs.texts.lay_words.Tie as tie
+use Rattle.texts.proofs.lay_words.Statement.{statement}
+use Rattle.texts.proofs.lay_words.Tie as tie
 
 words-at-requires : tie.Need-words-at-requires
 words-at-requires c κs = search needs

@@ -1,6 +1,6 @@
 -- Inside words no byte begins a row.
-use Rattle.face.proofs.texts.row_of.Statement.{statement}
-use Rattle.face.proofs.texts.row_of.Tie as tie
+use Rattle.texts.proofs.row_of.Statement.{statement}
+use Rattle.texts.proofs.row_of.Tie as tie
 
 returns : tie.Need-returns
 returns c = rw (c .if1 .taken)

@@ -1,0 +1,4 @@
+pub mod Words
+pub mod Scans
+pub mod Laying
+pub mod OneAnswer
