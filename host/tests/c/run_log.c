@@ -8,9 +8,6 @@
 #include "check.h"
 #include "sleetanvil.h"
 
-/* A type has a size, or the file does not compile: static_assert for C99 too. */
-#define SIZE_IS(type, size) typedef char type##_has_its_size[sizeof(type) == (size) ? 1 : -1]
-
 SIZE_IS(sleet_geometry, 20);
 SIZE_IS(sleet_state, 32);
 SIZE_IS(sleet_answer, 64);
