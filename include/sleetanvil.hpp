@@ -1,5 +1,5 @@
 /*
- * A device for C++11 and later: part, state and memory in one value.
+ * A device for C++11 and later: part, state and memory in one value. And a keeper of the bus, for four cores that share one device.
  *
  *     sleetanvil::device flash(sleet_bench());
  *     const uint8_t di[] = {SLEET_CODE_READ_ID, 0, 0, 0};
@@ -20,6 +20,18 @@
  * was made, `check` and the test `if (flash)` at any time. On a device that `check` finds good, select, shift, deselect, work and power are
  * never refused, level only with 8, transfer and shifts only with 9, run and judge only with 6 to 9. A device that was moved from has no
  * memory left: its calls are refused until it is given a new value.
+ *
+ * Four cores at one device. What sleetanvil.h says of a keeper of the bus holds for the class `keeper`:
+ *
+ *     sleetanvil::keeper bus;
+ *     bus.add(2, 0x21); // core 2 waits with transfer 21h
+ *     bus.add(0, 0x07);
+ *     while (const sleetanvil::granted next = bus.grant()) {
+ *         // the transfer next.tag of core next.core may go to the device: 07h of core 0, then 21h of core 2
+ *     }
+ *
+ * A keeper is a value of a few bytes, and none of its calls throws. `add` returns the refusal number; `grant` returns it with the core and
+ * the tag. A keeper that is made of a struct which is not sound is there, and each `add` and `grant` of it is refused with 20.
  */
 #ifndef SLEETANVIL_HPP
 #define SLEETANVIL_HPP
@@ -306,6 +318,68 @@ private:
     std::vector<uint8_t> cells_;
     std::vector<uint8_t> cache_;
     std::vector<uint8_t> counts_;
+};
+
+/* What a keeper answers to `grant`. */
+struct granted {
+    uint8_t refusal; /* 0; or, the first that holds: 20, 16 */
+    uint8_t core;    /* whose transfer it is; 0 where it is refused */
+    uint8_t tag;     /* the transfer; 0 where it is refused */
+
+    /* Whether a transfer was granted. */
+    explicit operator bool() const noexcept
+    {
+        return refusal == SLEET_DONE;
+    }
+};
+
+class keeper {
+public:
+    /* Four empty queues; the first grant looks from core 0. */
+    keeper() noexcept : keeper_(sleet_keeper_new())
+    {
+    }
+
+    /* A keeper as it is. */
+    explicit keeper(const sleet_keeper &value) noexcept : keeper_(value)
+    {
+    }
+
+    /* Adds a transfer at the back of a core's queue. Returns the refusal number: 14 for a core above 3, 15 where eight wait there. */
+    uint8_t add(uint8_t core, uint8_t tag) noexcept
+    {
+        const sleet_added added = sleet_keeper_add(keeper_, core, tag);
+
+        keeper_ = added.keeper;
+        return added.refusal;
+    }
+
+    /*
+     * Takes the transfer that is next: the front of the first queue that is not empty, from the core after the last granted, round from 3
+     * to 0. Refused with 16 where no transfer waits.
+     */
+    granted grant() noexcept
+    {
+        const sleet_granted answer = sleet_keeper_grant(keeper_);
+
+        keeper_ = answer.keeper;
+        return {answer.refusal, answer.core, answer.tag};
+    }
+
+    /* How many transfers wait in a core's queue; none for a core above 3. */
+    std::size_t waiting(uint8_t core) const noexcept
+    {
+        return core < 4 ? keeper_.queues[core].length : 0;
+    }
+
+    /* The keeper as a plain struct. */
+    const sleet_keeper &value() const noexcept
+    {
+        return keeper_;
+    }
+
+private:
+    sleet_keeper keeper_;
 };
 
 } // namespace sleetanvil

@@ -1,6 +1,7 @@
 //! Between the wrapper's types and those of the paper's model, which share nothing, for whoever
 //! compares the two.
 
+use crate::raw::{RawKeeper, RawQueue};
 use crate::{paper, Answer, Geometry, Refusal, State};
 
 impl From<Geometry> for paper::Part {
@@ -78,6 +79,26 @@ impl From<paper::Answer> for Answer {
             used: answer.used,
             written: answer.written,
             refusal: Refusal::from_number(paper::Refusal::number(answer.refusal)),
+        }
+    }
+}
+
+impl From<RawKeeper> for paper::Keeper {
+    fn from(keeper: RawKeeper) -> Self {
+        let queue = |RawQueue { tags, head, length }| paper::Queue { tags, head, length };
+        paper::Keeper {
+            queues: keeper.queues.map(queue),
+            last: keeper.last,
+        }
+    }
+}
+
+impl From<paper::Keeper> for RawKeeper {
+    fn from(keeper: paper::Keeper) -> Self {
+        let queue = |paper::Queue { tags, head, length }| RawQueue { tags, head, length };
+        RawKeeper {
+            queues: keeper.queues.map(queue),
+            last: keeper.last,
         }
     }
 }

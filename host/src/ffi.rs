@@ -79,6 +79,53 @@ pub struct RawWrote {
     pub place: usize,
 }
 
+/// `sleet_queue`.
+#[repr(C)]
+#[derive(Clone, Copy, Debug, PartialEq, Eq)]
+pub struct RawQueue {
+    /// The tags that wait, from place `head` on, round from place 7 to 0. The other places are never
+    /// looked at.
+    pub tags: [u8; 8],
+    /// The place of the front, 0 to 7, in an empty queue too.
+    pub head: u8,
+    /// How many wait, 0 to 8.
+    pub length: u8,
+}
+
+/// `sleet_keeper`.
+#[repr(C)]
+#[derive(Clone, Copy, Debug, PartialEq, Eq)]
+pub struct RawKeeper {
+    /// One queue for each core.
+    pub queues: [RawQueue; 4],
+    /// The core that was granted last, 0 to 3.
+    pub last: u8,
+}
+
+/// `sleet_added`.
+#[repr(C)]
+#[derive(Clone, Copy, Debug, PartialEq, Eq)]
+pub struct RawAdded {
+    /// The keeper after the adding; as it was where it is refused.
+    pub keeper: RawKeeper,
+    /// 0, 20, 14 or 15.
+    pub refusal: u8,
+}
+
+/// `sleet_granted`.
+#[repr(C)]
+#[derive(Clone, Copy, Debug, PartialEq, Eq)]
+pub struct RawGranted {
+    /// The keeper after the grant; as it was where it is refused.
+    pub keeper: RawKeeper,
+    /// 0, 20 or 16.
+    pub refusal: u8,
+    /// Whose transfer it is; 0 where it is refused.
+    pub core: u8,
+    /// The transfer; 0 where it is refused.
+    pub tag: u8,
+}
+
 /// `SLEET_VERSION`: that of the header which this file was written for.
 pub const VERSION: u32 = 2;
 
@@ -89,6 +136,10 @@ const _: () = {
     assert!(size_of::<Geometry>() == 20 && align_of::<Geometry>() == 4);
     assert!(size_of::<RawRecord>() == 4 && align_of::<RawRecord>() == 2);
     assert!(size_of::<RawPeeked>() == 2 && align_of::<RawPeeked>() == 1);
+    assert!(size_of::<RawQueue>() == 10 && align_of::<RawQueue>() == 1);
+    assert!(size_of::<RawKeeper>() == 41 && align_of::<RawKeeper>() == 1);
+    assert!(size_of::<RawAdded>() == 42 && align_of::<RawAdded>() == 1);
+    assert!(size_of::<RawGranted>() == 44 && align_of::<RawGranted>() == 1);
 };
 
 #[cfg(target_pointer_width = "64")]
@@ -116,6 +167,9 @@ extern "C" {
         -> RawPeeked;
     fn sleet_next(log: *const u8, log_length: usize, place: usize) -> RawFound;
     fn sleet_write(record: RawRecord, log: *mut u8, log_length: usize, place: usize) -> RawWrote;
+    fn sleet_keeper_new() -> RawKeeper;
+    fn sleet_keeper_add(keeper: RawKeeper, core: u8, tag: u8) -> RawAdded;
+    fn sleet_keeper_grant(keeper: RawKeeper) -> RawGranted;
     fn sleet_text(refusal: u8, out: *mut u8, out_length: usize) -> usize;
 }
 
@@ -275,6 +329,26 @@ pub fn write(record: RawRecord, log: &mut [u8], place: usize) -> RawWrote {
     // SAFETY: the pointer comes with the length of its slice; every record and place is answered
     // for.
     unsafe { sleet_write(record, log.as_mut_ptr(), log.len(), place) }
+}
+
+/// `sleet_keeper_new`.
+pub fn keeper_new() -> RawKeeper {
+    // SAFETY: takes nothing, gives a struct of plain numbers.
+    unsafe { sleet_keeper_new() }
+}
+
+/// `sleet_keeper_add`.
+#[inline]
+pub fn keeper_add(keeper: RawKeeper, core: u8, tag: u8) -> RawAdded {
+    // SAFETY: answers for every content of its arguments.
+    unsafe { sleet_keeper_add(keeper, core, tag) }
+}
+
+/// `sleet_keeper_grant`.
+#[inline]
+pub fn keeper_grant(keeper: RawKeeper) -> RawGranted {
+    // SAFETY: answers for every content of its argument.
+    unsafe { sleet_keeper_grant(keeper) }
 }
 
 /// `sleet_text`.

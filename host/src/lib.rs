@@ -6,6 +6,7 @@
 //! * [`Device`] owns a part's memory and state, and takes transfers, bus events or whole logs.
 //! * [`lent`] has the same calls over borrowed memory, [`raw`] the C interface's own types.
 //! * [`Log`], [`Record`] and [`Records`] write and read bus logs.
+//! * [`Keeper`] says whose transfer is next where four cores share one device.
 //!
 //! What the machine is and what each refusal means stands in the project's `docs/MACHINE.md`. The
 //! independent model against which the library is tested and measured, `paper`, is no part of this
@@ -32,6 +33,7 @@ mod device;
 #[allow(unsafe_code)]
 mod ffi;
 mod geometry;
+mod keeper;
 pub mod lent;
 mod log;
 #[doc(hidden)]
@@ -44,6 +46,7 @@ pub mod vectors;
 
 pub use device::Device;
 pub use geometry::Geometry;
+pub use keeper::{Grant, Keeper};
 pub use lent::Answer;
 pub use log::{Log, Record, Records};
 pub use refusal::Refusal;
@@ -53,8 +56,9 @@ pub use state::{Job, Operation, State};
 pub mod raw {
     pub use crate::ffi::{
         bench, blank, cache_length, cells_length, counts_length, deselect, fm25s005bi3,
-        geometry_sound, judge, level, next, operation_length, peek, power, power_up, run, select,
-        shift, shifts, state_sound, text, transfer, units_left, version, work, write, RawAnswer,
-        RawFound, RawJudged, RawPeeked, RawRecord, RawWrote, TEXT, VERSION,
+        geometry_sound, judge, keeper_add, keeper_grant, keeper_new, level, next, operation_length,
+        peek, power, power_up, run, select, shift, shifts, state_sound, text, transfer, units_left,
+        version, work, write, RawAdded, RawAnswer, RawFound, RawGranted, RawJudged, RawKeeper,
+        RawPeeked, RawQueue, RawRecord, RawWrote, TEXT, VERSION,
     };
 }

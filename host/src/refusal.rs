@@ -8,7 +8,8 @@ use crate::ffi;
 /// Why a call stopped or was not begun.
 ///
 /// 1 to 5 are found before anything is done. 6 to 9 stop a run before one record; the records
-/// before it stand. Later versions may have more.
+/// before it stand. 14 to 16 and 20 come from a keeper of the bus alone, which is then as it was.
+/// Later versions may have more.
 #[derive(Clone, Copy, Debug, PartialEq, Eq, PartialOrd, Ord, Hash)]
 #[repr(u8)]
 #[non_exhaustive]
@@ -31,11 +32,19 @@ pub enum Refusal {
     BadLevel = 8,
     /// No output room left for a shift, or too little room for a record.
     NoRoom = 9,
+    /// A core above 3.
+    BadCore = 14,
+    /// Eight transfers wait in that core's queue.
+    QueueFull = 15,
+    /// No transfer waits.
+    AllEmpty = 16,
+    /// The keeper is not sound.
+    BadKeeper = 20,
 }
 
 impl Refusal {
     /// All of them, by number.
-    pub const ALL: [Refusal; 9] = [
+    pub const ALL: [Refusal; 13] = [
         Refusal::BadPart,
         Refusal::BadCells,
         Refusal::BadCache,
@@ -45,9 +54,13 @@ impl Refusal {
         Refusal::ShortBody,
         Refusal::BadLevel,
         Refusal::NoRoom,
+        Refusal::BadCore,
+        Refusal::QueueFull,
+        Refusal::AllEmpty,
+        Refusal::BadKeeper,
     ];
 
-    /// The number, 1 to 9.
+    /// The number: 1 to 9, 14 to 16 or 20.
     pub fn number(self) -> u8 {
         self as u8
     }

@@ -34,6 +34,13 @@ fn sleetanvil_h_from_c() {
 }
 
 #[test]
+fn keepers_from_c() {
+    for names in C {
+        Compiler::c(names).run_test("keeper.c", &[]);
+    }
+}
+
+#[test]
 fn sleetanvil_device_h_from_c() {
     for names in C {
         Compiler::c(names).run_test("device.c", &[]);
@@ -43,7 +50,10 @@ fn sleetanvil_device_h_from_c() {
 #[test]
 fn sleetanvil_hpp_from_cpp() {
     for names in CPP {
-        Compiler::cpp(names).run_test("device.cpp", &["-Wold-style-cast"]);
+        let compiler = Compiler::cpp(names);
+        for source in ["device.cpp", "keeper.cpp"] {
+            compiler.run_test(source, &["-Wold-style-cast"]);
+        }
     }
 }
 
@@ -53,7 +63,7 @@ fn c_headers_from_cpp() {
     Compiler::cpp(CPP[0]).run_test("run_log.c", &[]);
     for names in CPP {
         let compiler = Compiler::cpp(names);
-        for source in ["run_log.c", "device.c"] {
+        for source in ["run_log.c", "device.c", "keeper.c"] {
             run(compiler.strict(source).arg("-fsyntax-only"));
         }
     }

@@ -1,10 +1,10 @@
-//! The safe wrapper: devices, logs and refusals as a Rust program uses them.
+//! The safe wrapper: devices, logs, keepers and refusals as a Rust program uses them.
 
 use std::collections::HashSet;
 use std::error::Error;
 
 use sleetanvil::lent::{self, Memory};
-use sleetanvil::{Device, Geometry, Job, Log, Record, Records, Refusal, State};
+use sleetanvil::{Device, Geometry, Grant, Job, Keeper, Log, Record, Records, Refusal, State};
 
 /// A bench part that has done its power-up read and is unlocked.
 fn ready() -> Device {
@@ -289,6 +289,72 @@ fn lent_memory_stays_the_callers() {
     assert_eq!(cache, [0x3C; 20]);
 }
 
+/// The tags that wait in a core's queue.
+fn waiting(keeper: &Keeper, core: u8) -> Vec<u8> {
+    keeper.waiting(core).collect()
+}
+
+#[test]
+fn a_keeper_grants_round() {
+    let mut keeper = Keeper::new();
+    assert_eq!(keeper, Keeper::default());
+    assert_eq!(keeper.last(), 3);
+    for (core, tag) in [(2, 0x21), (0, 0x01), (2, 0x22), (0, 0x02), (2, 0x21)] {
+        assert_eq!(keeper.add(core, tag), Ok(()));
+    }
+    assert_eq!(waiting(&keeper, 0), [0x01, 0x02]);
+    assert_eq!(waiting(&keeper, 1), []);
+    assert_eq!(waiting(&keeper, 2), [0x21, 0x22, 0x21]);
+    for (core, tag) in [(0, 0x01), (2, 0x21), (0, 0x02), (2, 0x22), (2, 0x21)] {
+        assert_eq!(keeper.grant(), Ok(Grant { core, tag }));
+        assert_eq!(keeper.last(), core);
+    }
+    assert!((0..=255).all(|core| keeper.waiting(core).next().is_none()));
+    let empty = keeper;
+    assert_eq!(keeper.grant(), Err(Refusal::AllEmpty));
+    assert_eq!(keeper, empty);
+}
+
+#[test]
+fn a_keeper_refuses_a_ninth_transfer_and_a_fifth_core() {
+    let mut keeper = Keeper::new();
+    for tag in 0..8 {
+        assert_eq!(keeper.add(3, tag), Ok(()));
+    }
+    let full = keeper;
+    assert_eq!(keeper.add(3, 8), Err(Refusal::QueueFull));
+    assert_eq!(keeper.add(4, 8), Err(Refusal::BadCore));
+    assert_eq!(keeper.add(255, 8), Err(Refusal::BadCore));
+    assert_eq!(keeper, full);
+    assert_eq!(keeper.grant(), Ok(Grant { core: 3, tag: 0 }));
+    assert_eq!(keeper.add(3, 8), Ok(()));
+    // The ninth stands where the first stood.
+    assert_eq!(waiting(&keeper, 3), [1, 2, 3, 4, 5, 6, 7, 8]);
+    assert_eq!(keeper.raw().queues[3].tags, [8, 1, 2, 3, 4, 5, 6, 7]);
+    assert_eq!(waiting(&keeper, 4), []);
+}
+
+#[test]
+fn a_keeper_is_kept_and_comes_back() {
+    let mut keeper = Keeper::new();
+    keeper.add(1, 0x77).expect("room for a transfer");
+    let raw = keeper.raw();
+    assert_eq!(Keeper::from_raw(raw), Ok(keeper));
+    assert_eq!(
+        Keeper::from_raw(Keeper::new().raw()),
+        Ok(Keeper::new()),
+        "an empty one is sound"
+    );
+
+    let (mut head, mut length, mut last) = (raw, raw, raw);
+    head.queues[0].head = 8;
+    length.queues[1].length = 9;
+    last.last = 4;
+    for unsound in [head, length, last] {
+        assert_eq!(Keeper::from_raw(unsound), Err(Refusal::BadKeeper));
+    }
+}
+
 #[test]
 fn refusals_have_numbers_and_words() {
     let expected = [
@@ -301,6 +367,10 @@ fn refusals_have_numbers_and_words() {
         (Refusal::ShortBody, 7, "inside a body"),
         (Refusal::BadLevel, 8, "WP#"),
         (Refusal::NoRoom, 9, "no output room"),
+        (Refusal::BadCore, 14, "a core above 3"),
+        (Refusal::QueueFull, 15, "eight transfers wait in that queue"),
+        (Refusal::AllEmpty, 16, "no transfer waits"),
+        (Refusal::BadKeeper, 20, "the keeper is not sound"),
     ];
     let mut seen = HashSet::new();
     for (refusal, number, about) in expected {

@@ -1,4 +1,5 @@
-//! An independent model of document 01, written from the paper and the project's decisions alone.
+//! An independent model of document 01, written from the paper and the project's decisions alone; and
+//! of document 02 what is no part of the device, the keeper of the bus.
 //!
 //! It shares no code and no type with the proved library. The tests compare the two on random
 //! contents of all their inputs, sound and not, and the benchmark takes this model as what a good
@@ -23,9 +24,11 @@
 //! | `run` | a log run on a device: the checks, then record by record |
 //! | `orderly` | whether demand 3 speaks of a log |
 //! | `calls` | what a simulator calls beside a log: transfers, long work, the next byte, the units left |
+//! | `keeper` | four cores at one chip select: queues of waiting transfers, and whose turn it is |
 
 mod calls;
 mod instructions;
+mod keeper;
 mod log;
 mod orderly;
 mod part;
@@ -37,6 +40,7 @@ mod transfer;
 mod work;
 
 pub use calls::{blank, operation_length, peek, shifts, transfer, units_left, work};
+pub use keeper::{Bus, Keeper, Queue};
 pub use log::{next, write, Record};
 pub use orderly::judge;
 pub use part::Part;

@@ -8,9 +8,6 @@
 #include "check.h"
 #include "sleetanvil.h"
 
-/* A type has a size, or the file does not compile: static_assert for C99 too. */
-#define SIZE_IS(type, size) typedef char type##_has_its_size[sizeof(type) == (size) ? 1 : -1]
-
 SIZE_IS(sleet_geometry, 20);
 SIZE_IS(sleet_state, 32);
 SIZE_IS(sleet_answer, 64);
@@ -416,6 +413,13 @@ static void check_records(void)
     CHECK(found.refusal == SLEET_BAD_LEVEL && found.record.kind == 0 && found.place == 7);
 }
 
+/* Returns whether a refusal has this number. */
+static bool is_refusal(unsigned number)
+{
+    return (number >= SLEET_BAD_PART && number <= SLEET_NO_ROOM) || (number >= SLEET_BAD_CORE && number <= SLEET_ALL_EMPTY) ||
+           number == SLEET_BAD_KEEPER;
+}
+
 static void check_texts(void)
 {
     char text[SLEET_TEXT];
@@ -426,9 +430,7 @@ static void check_texts(void)
         memset(text, '#', sizeof text);
         length = sleet_text((uint8_t)number, text, sizeof text);
         CHECK(length > 0 && length < sizeof text && text[length] == '\0' && strlen(text) == length);
-        if (number > 9) {
-            CHECK(strcmp(text, "no such refusal") == 0);
-        }
+        CHECK(number == SLEET_DONE || (strcmp(text, "no such refusal") == 0) == !is_refusal(number));
         memset(text, '#', sizeof text);
         CHECK(sleet_text((uint8_t)number, text, length) == 0 && text[0] == '#');
     }
