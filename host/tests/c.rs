@@ -6,10 +6,12 @@
 
 mod support;
 
+use std::collections::BTreeSet;
 use std::env;
 use std::fs;
 use std::path::{Path, PathBuf};
 use std::process::Command;
+use std::str;
 
 const STRICT: [&str; 6] = [
     "-Wall",
@@ -69,11 +71,21 @@ fn c_headers_from_cpp() {
     }
 }
 
-/// The program in the project's README, as it stands there.
+/// The programs in the project's papers, as they stand there.
 #[test]
-fn the_readmes_program() {
-    let readme = Path::new(env!("CARGO_MANIFEST_DIR")).join("../README.md");
-    let text = fs::read_to_string(readme).expect("the README");
+fn programs_of_the_papers() {
+    let printed = |paper| Compiler::c(C[0]).run_test(&program_of(paper), &[]);
+    assert_eq!(printed("README.md"), "5A 01\n");
+    assert_eq!(
+        printed("docs/FOR-DRIVERS.md"),
+        "core 0: 00\ncore 1: FF\ncore 3: 01\ncore 0: 02\n"
+    );
+}
+
+/// The program that stands in a paper of the project, as a file of its own.
+fn program_of(paper: &str) -> String {
+    let project = Path::new(env!("CARGO_MANIFEST_DIR")).join("..");
+    let text = fs::read_to_string(project.join(paper)).expect("a paper");
     let lines = text
         .lines()
         .skip_while(|line| *line != "    #include <stdio.h>");
@@ -84,10 +96,56 @@ fn the_readmes_program() {
             break;
         }
     }
-    let source = Path::new(env!("CARGO_TARGET_TMPDIR")).join("readme.c");
+    let name = paper.replace(['/', '.'], "_") + ".c";
+    let source = Path::new(env!("CARGO_TARGET_TMPDIR")).join(name);
     fs::write(&source, program.join("\n") + "\n").expect("a file of the tests");
-    let source = source.to_str().expect("a plain path");
-    assert_eq!(Compiler::c(C[0]).run_test(source, &[]), "5A 01\n");
+    source.to_str().expect("a plain path").into()
+}
+
+/// The archive has the functions that the header names, and no others.
+#[test]
+fn the_archive_has_the_headers_functions() {
+    let header = fs::read_to_string(headers().join("sleetanvil.h")).expect("the header");
+    let declared: BTreeSet<&str> = header
+        .match_indices("sleet_")
+        .filter_map(|(at, _)| declared(&header, at))
+        .collect();
+    let archive = fs::read(env!("SLEETANVIL_ARCHIVE")).expect("the archive");
+    let exported = index(&archive).expect("an index of names");
+    assert_eq!(exported, declared);
+    assert!(declared.contains("sleet_run") && declared.contains("sleet_keeper_grant"));
+}
+
+/// The name of the function that is declared at a place of the header: the line begins with its
+/// type, and nothing but the name stands between that and the bracket.
+fn declared(header: &str, at: usize) -> Option<&str> {
+    let name = header[at..]
+        .split(|c: char| !(c.is_alphanumeric() || c == '_'))
+        .next()?;
+    let line = header[..at].rsplit('\n').next()?;
+    let plain = line.starts_with(|c: char| c.is_alphabetic()) && !line.starts_with("typedef");
+    (plain && !line.contains('(') && header[at + name.len()..].starts_with('(')).then_some(name)
+}
+
+/// The names in the index of an archive: its first member, 60 bytes of head, a count, so many
+/// places, and the names with a NUL behind each.
+fn index(archive: &[u8]) -> Option<BTreeSet<&str>> {
+    let head = archive.strip_prefix(b"!<arch>\n/ ")?;
+    let size: usize = str::from_utf8(head.get(46..56)?)
+        .ok()?
+        .trim()
+        .parse()
+        .ok()?;
+    let member = head.get(58..58 + size)?;
+    let count = u32::from_be_bytes(member.get(..4)?.try_into().ok()?) as usize;
+    let names = str::from_utf8(member.get(4 + 4 * count..)?).ok()?;
+    Some(names.split('\0').take(count).collect())
+}
+
+/// The folder of the headers.
+fn headers() -> PathBuf {
+    let beside = || Path::new(env!("CARGO_MANIFEST_DIR")).join("../include");
+    env::var_os("SLEETANVIL_INCLUDE").map_or_else(beside, PathBuf::from)
 }
 
 /// A compiler with a language and a standard.
@@ -140,13 +198,11 @@ impl Compiler {
     /// A call on a file of `c/`, or one with its whole path, with every warning an error.
     fn strict(&self, source: &str) -> Command {
         let package = Path::new(env!("CARGO_MANIFEST_DIR"));
-        let headers = env::var_os("SLEETANVIL_INCLUDE")
-            .map_or_else(|| package.join("../include"), PathBuf::from);
         let mut command = self.call();
         command
             .args(STRICT)
             .arg("-I")
-            .arg(headers)
+            .arg(headers())
             .arg(package.join("tests/c").join(source));
         command
     }

@@ -11,71 +11,8 @@ use std::collections::VecDeque;
 use sleetanvil::raw::{self, RawKeeper, RawQueue};
 use sleetanvil::{paper, Grant, Keeper, Refusal};
 use support::hunt::{cases, seed};
+use support::keeping::{library, model, Call, Outcome, Subject};
 use support::rng::Rng;
-
-/// One call.
-#[derive(Clone, Copy, Debug, PartialEq, Eq)]
-enum Call {
-    Add { core: u8, tag: u8 },
-    Grant,
-}
-
-/// All that a call gives back, every byte of it. An adding has core and tag 0.
-#[derive(Clone, Copy, Debug, PartialEq, Eq)]
-struct Outcome {
-    refusal: u8,
-    core: u8,
-    tag: u8,
-    keeper: RawKeeper,
-}
-
-impl Outcome {
-    /// Of a call that grants nothing: an adding, or one that is refused.
-    fn ungranted(refusal: u8, keeper: RawKeeper) -> Self {
-        Outcome {
-            refusal,
-            core: 0,
-            tag: 0,
-            keeper,
-        }
-    }
-}
-
-/// Whatever takes calls: the library, the model, or a model that is wrong.
-type Subject = fn(RawKeeper, Call) -> Outcome;
-
-fn library(keeper: RawKeeper, call: Call) -> Outcome {
-    match call {
-        Call::Add { core, tag } => {
-            let added = raw::keeper_add(keeper, core, tag);
-            Outcome::ungranted(added.refusal, added.keeper)
-        }
-        Call::Grant => {
-            let granted = raw::keeper_grant(keeper);
-            Outcome {
-                refusal: granted.refusal,
-                core: granted.core,
-                tag: granted.tag,
-                keeper: granted.keeper,
-            }
-        }
-    }
-}
-
-fn model(keeper: RawKeeper, call: Call) -> Outcome {
-    let mut after = paper::Keeper::from(keeper);
-    let answer = match call {
-        Call::Add { core, tag } => after.add(core, tag).map(|()| (0, 0)),
-        Call::Grant => after.grant(),
-    };
-    let (core, tag) = answer.unwrap_or_default();
-    Outcome {
-        refusal: answer.err().unwrap_or(0),
-        core,
-        tag,
-        keeper: after.into(),
-    }
-}
 
 /// A keeper that is handed in, and the calls on it, one after the other.
 #[derive(Clone, Debug)]

@@ -1,5 +1,6 @@
-//! What the tests share: the library on a case and the comparison of outcomes, a random number
-//! generator, a generator of cases, the hunt with its report, and how a program is started.
+//! What the tests share: the library on a case and the comparison of outcomes, calls on a keeper, a
+//! random number generator, a generator of cases, the hunt with its report, and how a program is
+//! started.
 
 // Each test program uses a part of it.
 #![allow(dead_code)]
@@ -7,6 +8,7 @@
 pub mod compare;
 pub mod generate;
 pub mod hunt;
+pub mod keeping;
 pub mod rng;
 
 use std::env;
