@@ -3,7 +3,7 @@ use mathlib.Core.Bool.{Bool, true, not, _&&_}
 use mathlib.Core.List.{List, [], _∷_}
 use Prim.Native.Nat.{ℕ, zero, suc, _+_, _-_, _%_, _<_, _≤_}
 use lib.Dec.{ltb, leb, eqb}
-use lib.ListN.{length, getD, set}
+use lib.ListN.{getD, set}
 use Rattle.part.specs.Choice.{if_then_else_}
 use Rattle.keeper.specs.declared.Queue.{Queue}
 use Rattle.keeper.specs.declared.Keeper.{Keeper}
@@ -41,30 +41,34 @@ waitingIn q = tagsFrom (q .tags) (q .head) (q .length)
 abbrev pub waiting : Keeper → ℕ → List ℕ
 waiting k core = waitingIn (queueAt k core)
 
--- ---- a sound keeper: every queue length is at most eight, every queue place and the last core are in range
+-- ---- a sound keeper: no queue length above eight, no queue place and no last core out of range
 
+-- a queue: its place, and its length
 pub record SoundQueue (q : Queue) : Type 0 where
   pub place : q .head < 8
   pub eight : q .length ≤ 8
 
+-- the last core, and the queues of all four
 pub record SoundKeeper (k : Keeper) : Type 0 where
   pub last : k .last < 4
   pub queues : (core : ℕ) → core < 4 → SoundQueue (queueAt k core)
 
--- the same as tests
+-- a queue, as a test
 abbrev pub queueSound : Queue → Bool
 queueSound q = ltb (q .head) 8 && leb (q .length) 8
 
--- of n queues, from that of a core on
+-- n queues, from that of a core on
 unfoldable pub soundFrom : Keeper → ℕ → ℕ → Bool
 soundFrom k core zero = true
 soundFrom k core (suc n) = queueSound (queueAt k core) && soundFrom k (core + 1) n
 
+-- a keeper
 unfoldable pub keeperSound : Keeper → Bool
 keeperSound k = ltb (k .last) 4 && soundFrom k 0 4
 
 -- ---- the refusals
 
+-- the number of each
 abbrev pub numberOf : Refused → ℕ
 numberOf Not = 0
 numberOf BadCore = 14

@@ -23,6 +23,7 @@ pub data AddLine (k : Keeper) (core : ℕ) : ℕ → Type 0 where
   eight-wait : SoundKeeper k → core ≤ 3 → length (waiting k core) ≡ 8 → AddLine k core 15
   has-room : SoundKeeper k → core ≤ 3 → length (waiting k core) < 8 → AddLine k core 0
 
+-- it gets n if and only if line n holds
 abbrev pub AddExactly : Type 0
 AddExactly = (k : Keeper) (core tag n : ℕ) → numberOf (addOf k core tag .refused) ≡ n ↔ AddLine k core n
 
@@ -32,6 +33,7 @@ pub data GrantLine (k : Keeper) : ℕ → Type 0 where
   all-empty : SoundKeeper k → ((core : ℕ) → core ≤ 3 → waiting k core ≡ []) → GrantLine k 16
   one-waits : SoundKeeper k → (core : ℕ) → core ≤ 3 → ¬ (waiting k core ≡ []) → GrantLine k 0
 
+-- it gets n if and only if line n holds
 abbrev pub GrantExactly : Type 0
 GrantExactly = (k : Keeper) (n : ℕ) → numberOf (grantOf k .refused) ≡ n ↔ GrantLine k n
 
@@ -64,11 +66,12 @@ pub record AtBack (k : Keeper) (core tag : ℕ) (j : Keeper) : Type 0 where
   pub others : (d : ℕ) → ¬ (d ≡ core) → queueAt j d ≡ queueAt k d
   pub last : j .last ≡ k .last
 
+-- so it is after each adding that is not refused
 abbrev pub AddsAtBack : Type 0
 AddsAtBack = (k : Keeper) → Formed k → (core tag : ℕ) → addOf k core tag .refused ≡ Not → AtBack k core tag (addOf k core tag .keeper)
 
--- a grant of k: the core that is `steps` after the last granted, each core between with nothing waiting; it has lost its front, nothing else has
--- changed, and it is the last granted
+-- a grant of k: the core that is `steps` after the last granted, each core between with nothing waiting; its queue has lost its front, nothing
+-- else has changed, and it is the last granted
 pub record InTurn (k : Keeper) (g : Granted) : Type 0 where
   pub steps : ℕ
   pub on : 1 ≤ steps
@@ -79,6 +82,7 @@ pub record InTurn (k : Keeper) (g : Granted) : Type 0 where
   pub others : (d : ℕ) → ¬ (d ≡ g .core) → queueAt (g .keeper) d ≡ queueAt k d
   pub last : g .keeper .last ≡ g .core
 
+-- so it is after each grant that is not refused
 abbrev pub GrantsInTurn : Type 0
 GrantsInTurn = (k : Keeper) → Formed k → grantOf k .refused ≡ Not → InTurn k (grantOf k)
 

@@ -15,8 +15,8 @@ use Rattle.rounds.specs.Rounds.{Call, adding, granting, calledAll, answe
 abbrev pub StaysGood : Type 0
 StaysGood = (k : Keeper) → Good k → (xs : List Call) → Good (calledAll k xs)
 
--- ---- order, and once: what has been granted to a core, followed by what still waits in its queue, is what waited at the start, followed by
--- what was added and not refused
+-- ---- order, and once: what has been granted to a core, followed by what still waits in its queue, is what waited at the start, followed
+-- by what was added and not refused
 
 abbrev pub InOrder : Type 0
 InOrder =
