@@ -70,8 +70,8 @@ pub record AtBack (k : Keeper) (core tag : ℕ) (j : Keeper) : Type 0 where
 abbrev pub AddsAtBack : Type 0
 AddsAtBack = (k : Keeper) → Formed k → (core tag : ℕ) → addOf k core tag .refused ≡ Not → AtBack k core tag (addOf k core tag .keeper)
 
--- a grant of k: it goes to the core that is `steps` after the last granted, each core between with nothing waiting; that core's queue has lost
--- its front, nothing else has changed, and the core is the last granted
+-- a grant of k: it goes to the core that is `steps` after the last granted, each core between with nothing waiting; that core's queue has
+-- lost its front, nothing else has changed, and the core is the last granted
 pub record InTurn (k : Keeper) (g : Granted) : Type 0 where
   pub steps : ℕ
   pub on : 1 ≤ steps

@@ -1,7 +1,5 @@
 // A table of calls on the proved keeper: each line of the input is a case, and a line is printed for it. The expected lines were worked
 // out by hand; none is copied from what this program printed. The head of the input says how a line is written.
-use keeper::Added;
-use keeper::Granted;
 use keeper::Keeper;
 use keeper::Queue;
 use libc::STDOUT_FILENO;
