@@ -46,17 +46,6 @@ fn fresh(part: Part) -> Reader {
     }
 }
 
-// The calls of a line go on with a keeper.
-fn goes_on(keeper: Keeper) -> Reader {
-    Reader {
-        keeper,
-        part: Part::Calls,
-        letter: 0,
-        left: 0,
-        number: 0,
-    }
-}
-
 // Digits are read for a letter.
 fn reads(keeper: Keeper, letter: u8, left: u8, number: u32) -> Reader {
     Reader {
@@ -66,6 +55,11 @@ fn reads(keeper: Keeper, letter: u8, left: u8, number: u32) -> Reader {
         left,
         number,
     }
+}
+
+// The calls of a line go on with a keeper.
+fn goes_on(keeper: Keeper) -> Reader {
+    reads(keeper, 0, 0, 0)
 }
 
 // `+`, core and tag: an adding, told by its number.
