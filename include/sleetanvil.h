@@ -325,7 +325,7 @@ typedef struct sleet_keeper {
     uint8_t last;          /* the core that was granted last: 0 to 3 */
 } sleet_keeper;
 
-/* Four empty queues; `last` is 3, so that the first grant looks from core 0. */
+/* Four empty queues; `last` is 3, so that the first grant looks from core 0. (A keeper of zeros is sound too, but looks from core 1.) */
 sleet_keeper sleet_keeper_new(void);
 
 typedef struct sleet_added {
