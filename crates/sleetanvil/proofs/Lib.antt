@@ -1,4 +1,4 @@
 pub mod Refused
 pub mod Quiet
-pub mod Besides
+pub mod Works
 pub mod OneAnswer

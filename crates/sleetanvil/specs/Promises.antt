@@ -1,23 +1,20 @@
 -- What is promised of a run in numbers: those that stand for no state are refused in the paper's order, an event needs no output but for a
--- shift, and work is the run of its record; and of the next byte, when it is refused.
+-- shift, and work is the run of its record.
 use mathlib.Core.Bool.{not}
 use mathlib.Core.List.{List}
 use mathlib.Core.Path.{_≡_}
 use Prim.Native.Nat.{ℕ, _*_}
 use lib.Dec.{eqb}
-use lib.ListN.{length}
 use Rattle.part.specs.Choice.{if_then_else_}
 use Rattle.part.specs.Part.{page, rows, soundPart}
 use Rattle.part.specs.declared.Geometry.{Geometry}
 use Rattle.buslog.specs.Log.{bytesOf}
 use Rattle.buslog.specs.declared.Record.{Record}
 use Rattle.buslog.specs.declared.Record.the-variants.{Units}
-use Rattle.face.specs.Face.{partOf, stateOf, soundTold}
 use Rattle.face.specs.declared.CGeometry.{CGeometry}
 use Rattle.face.specs.declared.CState.{CState}
 use Rattle.walk.specs.Turns.{takes}
 use Rattle.sleetanvil.specs.Runs.{checkBad, faceRan, unheard, quietOf, workedOf}
-use Rattle.sleetanvil.specs.Beside.{peekedOf}
 
 -- numbers that stand for no state: the part, the cells, the cache register and the page counts are checked first, and then it is 5
 abbrev pub BadExactly : Type 0
@@ -35,16 +32,6 @@ abbrev pub AnyOutput : Type 0
 AnyOutput =
     (g : CGeometry) (c : CState) (e : Record) (cells cache counts out : List ℕ) → takes e ≡ 0 →
     unheard (faceRan g c (bytesOf e) cells cache counts out) ≡ quietOf g c (bytesOf e) cells cache counts
-
--- the next byte can be refused with 1, 3 and 5, in this order; numbers that stand for no state are 5
-abbrev pub PeekRefused : Type 0
-PeekRefused =
-    (g : CGeometry) (c : CState) (cache : List ℕ) →
-    peekedOf g c cache .refusal
-    ≡ (if not (soundPart (partOf g)) then 1
-    else if not (eqb (length cache) (page (partOf g))) then 3
-    else if not (soundTold (partOf g) (stateOf c)) then 5
-    else 0)
 
 -- work of any number of units is what the run of one record with that number would be
 abbrev pub WorkRecord : Type 0

@@ -1,7 +1,7 @@
 -- The refusal by its number.
 use borrow.Author.Needs.{needs}
-use Rattle.sleetanvil.proofs.peek_of.Statement.{statement}
-use Rattle.sleetanvil.proofs.peek_of.Tie as tie
+use Rattle.beside_face.proofs.peek_of.Statement.{statement}
+use Rattle.beside_face.proofs.peek_of.Tie as tie
 
 number-of-requires : tie.Need-number-of-requires
 number-of-requires c κs = search needs

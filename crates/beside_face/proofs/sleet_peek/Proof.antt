@@ -1,7 +1,7 @@
 -- The next byte, in numbers.
 use borrow.Author.Needs.{needs}
-use Rattle.sleetanvil.proofs.sleet_peek.Statement.{statement}
-use Rattle.sleetanvil.proofs.sleet_peek.Tie as tie
+use Rattle.beside_face.proofs.sleet_peek.Statement.{statement}
+use Rattle.beside_face.proofs.sleet_peek.Tie as tie
 
 state-of-requires : tie.Need-state-of-requires
 state-of-requires c κs = search needs

@@ -1,8 +1,8 @@
 -- An operation by the number of its job.
 use borrow.Author.Tests.{ne-eqb}
 use borrow.Author.Needs.{needs}
-use Rattle.sleetanvil.proofs.sleet_operation_length.Statement.{statement}
-use Rattle.sleetanvil.proofs.sleet_operation_length.Tie as tie
+use Rattle.beside_face.proofs.sleet_operation_length.Statement.{statement}
+use Rattle.beside_face.proofs.sleet_operation_length.Tie as tie
 
 part-of-requires : tie.Need-part-of-requires
 part-of-requires c κs = search needs

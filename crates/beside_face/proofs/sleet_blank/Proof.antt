@@ -1,9 +1,9 @@
 -- Blank memory, its refusal by its number.
 use mathlib.Core.Path.{ap}
-use Rattle.sleetanvil.specs.Beside.{blankedAs}
+use Rattle.beside_face.specs.Beside.{blankedAs}
 use borrow.Author.Needs.{needs}
-use Rattle.sleetanvil.proofs.sleet_blank.Statement.{statement}
-use Rattle.sleetanvil.proofs.sleet_blank.Tie as tie
+use Rattle.beside_face.proofs.sleet_blank.Statement.{statement}
+use Rattle.beside_face.proofs.sleet_blank.Tie as tie
 
 part-of-requires : tie.Need-part-of-requires
 part-of-requires c κs = search needs

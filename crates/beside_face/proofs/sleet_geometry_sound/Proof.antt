@@ -1,7 +1,7 @@
 -- A geometry is tested as the part that it stands for.
 use borrow.Author.Needs.{needs}
-use Rattle.sleetanvil.proofs.sleet_geometry_sound.Statement.{statement}
-use Rattle.sleetanvil.proofs.sleet_geometry_sound.Tie as tie
+use Rattle.beside_face.proofs.sleet_geometry_sound.Statement.{statement}
+use Rattle.beside_face.proofs.sleet_geometry_sound.Tie as tie
 
 part-of-requires : tie.Need-part-of-requires
 part-of-requires c κs = search needs

@@ -1,7 +1,7 @@
 -- The units left of the state that the numbers stand for; no state has none.
 use borrow.Author.Needs.{needs}
-use Rattle.sleetanvil.proofs.sleet_units_left.Statement.{statement}
-use Rattle.sleetanvil.proofs.sleet_units_left.Tie as tie
+use Rattle.beside_face.proofs.sleet_units_left.Statement.{statement}
+use Rattle.beside_face.proofs.sleet_units_left.Tie as tie
 
 part-of-requires : tie.Need-part-of-requires
 part-of-requires c κs = search needs

@@ -1,7 +1,7 @@
 -- The power-up state.
 use borrow.Author.Needs.{needs}
-use Rattle.sleetanvil.proofs.sleet_power_up.Statement.{statement}
-use Rattle.sleetanvil.proofs.sleet_power_up.Tie as tie
+use Rattle.beside_face.proofs.sleet_power_up.Statement.{statement}
+use Rattle.beside_face.proofs.sleet_power_up.Tie as tie
 
 power-up-requires : tie.Need-power-up-requires
 power-up-requires c κs = search needs

@@ -1,7 +1,7 @@
 -- The part of the datasheet.
 use borrow.Author.Needs.{needs}
-use Rattle.sleetanvil.proofs.sleet_fm25s005bi3.Statement.{statement}
-use Rattle.sleetanvil.proofs.sleet_fm25s005bi3.Tie as tie
+use Rattle.beside_face.proofs.sleet_fm25s005bi3.Statement.{statement}
+use Rattle.beside_face.proofs.sleet_fm25s005bi3.Tie as tie
 
 geometry-requires : tie.Need-geometry-requires
 geometry-requires c κs = search needs

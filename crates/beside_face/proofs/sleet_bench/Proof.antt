@@ -1,7 +1,7 @@
 -- The bench part.
 use borrow.Author.Needs.{needs}
-use Rattle.sleetanvil.proofs.sleet_bench.Statement.{statement}
-use Rattle.sleetanvil.proofs.sleet_bench.Tie as tie
+use Rattle.beside_face.proofs.sleet_bench.Statement.{statement}
+use Rattle.beside_face.proofs.sleet_bench.Tie as tie
 
 geometry-requires : tie.Need-geometry-requires
 geometry-requires c κs = search needs
