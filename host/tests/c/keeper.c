@@ -179,12 +179,31 @@ static void check_unsound(sleet_keeper keeper)
     }
 }
 
+/* A keeper with another head, another length of a queue, or another core granted last. */
+static sleet_keeper with_head(sleet_keeper keeper, size_t core, uint8_t head)
+{
+    keeper.queues[core].head = head;
+    return keeper;
+}
+
+static sleet_keeper with_length(sleet_keeper keeper, size_t core, uint8_t length)
+{
+    keeper.queues[core].length = length;
+    return keeper;
+}
+
+static sleet_keeper with_last(sleet_keeper keeper, uint8_t last)
+{
+    keeper.last = last;
+    return keeper;
+}
+
 /* Each number out of range, alone and all at once, where transfers wait and where none does. */
 static void check_unsound_keepers(void)
 {
     sleet_keeper empty = sleet_keeper_new();
     sleet_keeper waiting = empty;
-    sleet_keeper keeper;
+    sleet_keeper ones;
     size_t i;
 
     for (i = 0; i < 4; i++) {
@@ -195,27 +214,15 @@ static void check_unsound_keepers(void)
     CHECK(sleet_keeper_add(waiting, 0, 1).refusal == SLEET_DONE && sleet_keeper_add(waiting, 3, 1).refusal == SLEET_QUEUE_FULL);
     CHECK(sleet_keeper_grant(waiting).refusal == SLEET_DONE && sleet_keeper_grant(waiting).tag == 0xA0);
     for (i = 0; i < 4; i++) {
-        keeper = empty;
-        keeper.queues[i].head = 8;
-        check_unsound(keeper);
-        keeper = waiting;
-        keeper.queues[i].head = 255;
-        check_unsound(keeper);
-        keeper = empty;
-        keeper.queues[i].length = 9;
-        check_unsound(keeper);
-        keeper = waiting;
-        keeper.queues[i].length = 255;
-        check_unsound(keeper);
+        check_unsound(with_head(empty, i, 8));
+        check_unsound(with_head(waiting, i, 255));
+        check_unsound(with_length(empty, i, 9));
+        check_unsound(with_length(waiting, i, 255));
     }
-    keeper = empty;
-    keeper.last = 4;
-    check_unsound(keeper);
-    keeper = waiting;
-    keeper.last = 255;
-    check_unsound(keeper);
-    memset(&keeper, 0xFF, sizeof keeper);
-    check_unsound(keeper);
+    check_unsound(with_last(empty, 4));
+    check_unsound(with_last(waiting, 255));
+    memset(&ones, 0xFF, sizeof ones);
+    check_unsound(ones);
 }
 
 /* Three cores add whenever they can. The fourth is granted within four grants all the same, wherever the round is. */
