@@ -126,6 +126,24 @@ pub struct RawGranted {
     pub tag: u8,
 }
 
+/// `sleet_sizes`.
+#[repr(C)]
+#[derive(Clone, Copy, Debug, PartialEq, Eq)]
+pub struct RawSizes {
+    /// D, data bytes per page.
+    pub data: u32,
+    /// K, pages per block.
+    pub pages: u32,
+    /// N, blocks.
+    pub blocks: u32,
+    /// S, spare bytes per page.
+    pub spare: u16,
+    /// The copy that they were read from, 0 to 2.
+    pub copy: u8,
+    /// 0, 11 or 10; all else is then 0.
+    pub refusal: u8,
+}
+
 /// `SLEET_VERSION`: that of the header which this file was written for.
 pub const VERSION: u32 = 2;
 
@@ -140,6 +158,7 @@ const _: () = {
     assert!(size_of::<RawKeeper>() == 41 && align_of::<RawKeeper>() == 1);
     assert!(size_of::<RawAdded>() == 42 && align_of::<RawAdded>() == 1);
     assert!(size_of::<RawGranted>() == 44 && align_of::<RawGranted>() == 1);
+    assert!(size_of::<RawSizes>() == 16 && align_of::<RawSizes>() == 4);
 };
 
 #[cfg(target_pointer_width = "64")]
@@ -170,6 +189,9 @@ extern "C" {
     fn sleet_keeper_new() -> RawKeeper;
     fn sleet_keeper_add(keeper: RawKeeper, core: u8, tag: u8) -> RawAdded;
     fn sleet_keeper_grant(keeper: RawKeeper) -> RawGranted;
+    fn sleet_page_make(part: Geometry, memory: *mut u8, length: usize) -> u8;
+    fn sleet_page_read(memory: *const u8, length: usize) -> RawSizes;
+    fn sleet_page_check(bytes: *const u8, length: usize) -> u16;
     fn sleet_text(refusal: u8, out: *mut u8, out_length: usize) -> usize;
 }
 
@@ -349,6 +371,25 @@ pub fn keeper_add(keeper: RawKeeper, core: u8, tag: u8) -> RawAdded {
 pub fn keeper_grant(keeper: RawKeeper) -> RawGranted {
     // SAFETY: answers for every content of its argument.
     unsafe { sleet_keeper_grant(keeper) }
+}
+
+/// `sleet_page_make`.
+pub fn page_make(part: Geometry, memory: &mut [u8]) -> u8 {
+    // SAFETY: the pointer comes with the length of its slice; every part is answered for.
+    unsafe { sleet_page_make(part, memory.as_mut_ptr(), memory.len()) }
+}
+
+/// `sleet_page_read`.
+pub fn page_read(memory: &[u8]) -> RawSizes {
+    // SAFETY: the pointer comes with the length of its slice.
+    unsafe { sleet_page_read(memory.as_ptr(), memory.len()) }
+}
+
+/// `sleet_page_check`.
+#[inline]
+pub fn page_check(bytes: &[u8]) -> u16 {
+    // SAFETY: the pointer comes with the length of its slice.
+    unsafe { sleet_page_check(bytes.as_ptr(), bytes.len()) }
 }
 
 /// `sleet_text`.

@@ -8,8 +8,8 @@ use crate::ffi;
 /// Why a call stopped or was not begun.
 ///
 /// 1 to 5 are found before anything is done. 6 to 9 stop a run before one record; the records
-/// before it stand. 14 to 16 and 20 come from a keeper of the bus alone, which is then as it was.
-/// Later versions may have more.
+/// before it stand. 10 and 11 are of parameter pages alone: no byte is changed. 14 to 16 and 20 come
+/// from a keeper of the bus alone, which is then as it was. Later versions may have more.
 #[derive(Clone, Copy, Debug, PartialEq, Eq, PartialOrd, Ord, Hash)]
 #[repr(u8)]
 #[non_exhaustive]
@@ -32,6 +32,10 @@ pub enum Refusal {
     BadLevel = 8,
     /// No output room left for a shift, or too little room for a record.
     NoRoom = 9,
+    /// No copy of the parameter page has both signature and check.
+    NoCopy = 10,
+    /// The memory is too short for a parameter page, or for its three copies.
+    ShortMemory = 11,
     /// A core above 3.
     BadCore = 14,
     /// Eight transfers wait in that core's queue.
@@ -44,7 +48,7 @@ pub enum Refusal {
 
 impl Refusal {
     /// All of them, by number.
-    pub const ALL: [Refusal; 13] = [
+    pub const ALL: [Refusal; 15] = [
         Refusal::BadPart,
         Refusal::BadCells,
         Refusal::BadCache,
@@ -54,13 +58,15 @@ impl Refusal {
         Refusal::ShortBody,
         Refusal::BadLevel,
         Refusal::NoRoom,
+        Refusal::NoCopy,
+        Refusal::ShortMemory,
         Refusal::BadCore,
         Refusal::QueueFull,
         Refusal::AllEmpty,
         Refusal::BadKeeper,
     ];
 
-    /// The number: 1 to 9, 14 to 16 or 20.
+    /// The number: 1 to 11, 14 to 16 or 20.
     pub fn number(self) -> u8 {
         self as u8
     }
