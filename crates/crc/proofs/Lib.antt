@@ -1,0 +1,5 @@
+pub mod Rule
+pub mod Xor
+pub mod Linear
+pub mod Noticing
+pub mod OneAnswer

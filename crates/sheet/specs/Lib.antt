@@ -1,0 +1,4 @@
+pub mod Numbers
+pub mod Sheet
+pub mod Page
+pub mod Promises
