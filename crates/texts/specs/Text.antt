@@ -20,7 +20,7 @@ infix 70 _means_
 abbrev pub _means_ : ℕ → String → Meaning
 n means s = record { number = n; words = s }
 
--- document 01's lines, in their order, and then those of document 02: of a keeper (item 9)
+-- document 01's lines, in their order, and then those of document 02: of parameter pages (item 1), of a keeper (item 9)
 unfoldable pub meanings : List Meaning
 meanings =
     0 means "done"
@@ -33,6 +33,8 @@ meanings =
     ∷ 7 means "the log ends inside a body"
     ∷ 8 means "a WP# level above 1"
     ∷ 9 means "no output room, or too little for a record"
+    ∷ 10 means "no copy of the parameter page holds"
+    ∷ 11 means "memory too short for the parameter page"
     ∷ 14 means "a core above 3"
     ∷ 15 means "eight transfers wait in that queue"
     ∷ 16 means "no transfer waits"

@@ -97,6 +97,8 @@ pub fn lay_text(refusal: u8, out: &mut [u8]) -> usize
         \x07the log ends inside a body\0\
         \x08a WP# level above 1\0\
         \x09no output room, or too little for a record\0\
+        \x0Ano copy of the parameter page holds\0\
+        \x0Bmemory too short for the parameter page\0\
         \x0Ea core above 3\0\
         \x0Feight transfers wait in that queue\0\
         \x10no transfer waits\0\
