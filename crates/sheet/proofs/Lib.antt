@@ -1,2 +1,5 @@
 pub mod Writing
 pub mod Pages
+pub mod Places
+pub mod Maker
+pub mod OneAnswer
