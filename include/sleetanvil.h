@@ -38,7 +38,7 @@ uint32_t sleet_version(void);
 /* ---- numbers of refusal ---- */
 
 enum {
-    SLEET_DONE = 0,       /* the log was read to its end, or the event was done */
+    SLEET_DONE = 0,       /* the log was read to its end, or what was asked was done */
     SLEET_BAD_PART = 1,   /* the geometry is not sound; nothing done */
     SLEET_BAD_CELLS = 2,  /* cells of the wrong length; nothing done */
     SLEET_BAD_CACHE = 3,  /* cache register of the wrong length; nothing done */
@@ -48,6 +48,9 @@ enum {
     SLEET_SHORT_BODY = 7, /* the log ends inside a body; stopped before it */
     SLEET_BAD_LEVEL = 8,  /* a WP# level above 1; stopped before it */
     SLEET_NO_ROOM = 9,    /* a shift and no output room left, or too little room for a record; stopped before it */
+    /* 10 and 11 come from parameter pages alone, and then not a byte is changed */
+    SLEET_NO_COPY = 10,      /* no copy has both its signature and its check */
+    SLEET_SHORT_MEMORY = 11, /* memory shorter than the page that is to be made, or than the three copies that are to be read */
     /* 14 to 16 and 20 come from a keeper of the bus alone, which is then as it was */
     SLEET_BAD_CORE = 14,   /* a core above 3 */
     SLEET_QUEUE_FULL = 15, /* eight transfers wait in that core's queue */
@@ -345,6 +348,49 @@ typedef struct sleet_granted {
 
 /* Take the transfer that is next: the front of the first queue that is not empty, from the core after `last`, round from 3 to 0. */
 sleet_granted sleet_keeper_grant(sleet_keeper keeper);
+
+/* ---- the parameter page ---- */
+
+/*
+ * A part says what it is in a page of 256 bytes that stands there three times: copies 0, 1 and 2, at bytes 0, 256 and 512. Boot code sizes
+ * the part from the first copy that holds: its bytes 0 to 3 are the signature 4Fh 4Eh 46h 49h ("ONFI"), and its bytes 254 and 255, low byte
+ * first, the check of bytes 0 to 253. D stands at byte 80 in 4 bytes, S at 84 in 2, K at 92 in 4 and N at 96 in 4, low byte first.
+ *
+ * These calls stand beside the device: no state goes in and none comes back. The real part answers the page over the bus, where its OTP
+ * pages are; the model has none of those pages yet. docs/FOR-DRIVERS.md says what boot code does with the page, with a program.
+ */
+enum { SLEET_PAGE_LENGTH = 256, SLEET_PAGE_COPIES = 3 }; /* bytes of a copy, and copies */
+
+/*
+ * Make the page of a part: the datasheet's own, with the D, S, K and N of the part in it, and its check. Manufacturer, model and the
+ * manufacturer's identity byte are those of the FM25S005BI3 for every part. Bytes 0 to 255 of `memory` are written and no others, whatever
+ * its length: for three copies lend memory, memory + 256 and memory + 512 in turn, each with the length from there on.
+ *
+ * Returns 0; or, the first that holds: 1 for a part that is not sound, 11 for a memory of fewer than 256 bytes. Then not a byte is changed.
+ */
+uint8_t sleet_page_make(sleet_geometry part, uint8_t *memory, size_t length);
+
+typedef struct sleet_sizes {
+    uint32_t data;   /* D, data bytes per page */
+    uint32_t pages;  /* K, pages per block */
+    uint32_t blocks; /* N, blocks */
+    uint16_t spare;  /* S, spare bytes per page */
+    uint8_t copy;    /* the copy that they were read from: 0, 1 or 2 */
+    uint8_t refusal; /* 0; or, the first that holds: 11 for a memory of fewer than 768 bytes, 10 where no copy holds. All else is then 0 */
+} sleet_sizes;
+
+/*
+ * Read the sizes of a part from the first copy whose signature and check hold, as they stand there. Nothing else of a page is judged, so
+ * that the four need not be a sound geometry: put them into a sleet_geometry, with the two bytes that Read ID answers, and ask
+ * sleet_geometry_sound before they are used. Bytes from 768 on are not looked at. Nothing is changed.
+ */
+sleet_sizes sleet_page_read(const uint8_t *memory, size_t length);
+
+/*
+ * The check of any bytes, ONFI 1.0's: 16 bits, polynomial 8005h, start 4F4Eh, the highest bit of each byte first, nothing turned round or
+ * inverted at the end. That of the nine bytes "123456789" is 2771h, that of no byte 4F4Eh.
+ */
+uint16_t sleet_page_check(const uint8_t *bytes, size_t length);
 
 /* ---- words ---- */
 

@@ -1,5 +1,6 @@
 /*
- * A device for C++11 and later: part, state and memory in one value. And a keeper of the bus, for four cores that share one device.
+ * A device for C++11 and later: part, state and memory in one value. A keeper of the bus, for four cores that share one device. And the
+ * parameter page, from which boot code sizes a part.
  *
  *     sleetanvil::device flash(sleet_bench());
  *     const uint8_t di[] = {SLEET_CODE_READ_ID, 0, 0, 0};
@@ -32,6 +33,13 @@
  *
  * A keeper is a value of a few bytes, and none of its calls throws. `add` returns the refusal number; `grant` returns it with the core and
  * the tag. A keeper that is made of a struct which is not sound is there, and each `add` and `grant` of it is refused with 20.
+ *
+ * The parameter page. What sleetanvil.h says of it holds for `page_make`, `page_read` and `page_check`; none of them throws. The memory is
+ * lent for the length of a call, and here too a null pointer stands for a memory of length 0:
+ *
+ *     if (const sleetanvil::sizes found = sleetanvil::page_read(memory.data(), memory.size())) {
+ *         sleetanvil::device flash(found.part(0xA1, 0xD5)); // check it: the page need not hold a sound geometry
+ *     }
  */
 #ifndef SLEETANVIL_HPP
 #define SLEETANVIL_HPP
@@ -381,6 +389,73 @@ public:
 private:
     sleet_keeper keeper_;
 };
+
+/* What `page_read` answers. */
+struct sizes {
+    uint8_t refusal; /* 0; or, the first that holds: 11, 10. All else is then 0 */
+    uint8_t copy;    /* the copy that the four were read from: 0, 1 or 2 */
+    uint32_t data;   /* D, data bytes per page */
+    uint16_t spare;  /* S, spare bytes per page */
+    uint32_t pages;  /* K, pages per block */
+    uint32_t blocks; /* N, blocks */
+
+    /* Whether a copy was found that holds. */
+    explicit operator bool() const noexcept
+    {
+        return refusal == SLEET_DONE;
+    }
+
+    /* The part of these sizes, sound or not, with the two bytes that Read ID answers. */
+    sleet_geometry part(uint8_t id0, uint8_t id1) const noexcept
+    {
+        return {data, spare, pages, blocks, id0, id1};
+    }
+};
+
+/*
+ * Makes the parameter page of a part in bytes 0 to 255 of the memory; those behind stay. Returns the refusal number: 1 for a part that is
+ * not sound, then 11 for a memory of fewer than 256 bytes.
+ */
+inline uint8_t page_make(const sleet_geometry &part, uint8_t *memory, std::size_t length) noexcept
+{
+    return sleet_page_make(part, sleet_device_lent_(memory), sleet_device_length_(memory, length));
+}
+
+/*
+ * Reads the sizes of a part from the first of the three copies whose signature and check hold. Refused with 11 for a memory of fewer than
+ * 768 bytes, then with 10 where no copy holds.
+ */
+inline sizes page_read(const uint8_t *memory, std::size_t length) noexcept
+{
+    const sleet_sizes found = sleet_page_read(sleet_device_given_(memory), sleet_device_length_(memory, length));
+
+    return {found.refusal, found.copy, found.data, found.spare, found.pages, found.blocks};
+}
+
+/* The check of any bytes; that of bytes 0 to 253 of a page is stored in its last two. */
+inline uint16_t page_check(const uint8_t *bytes, std::size_t length) noexcept
+{
+    return sleet_page_check(sleet_device_given_(bytes), sleet_device_length_(bytes, length));
+}
+
+#ifdef __cpp_lib_span
+/* The same three over spans. */
+
+inline uint8_t page_make(const sleet_geometry &part, std::span<uint8_t> memory) noexcept
+{
+    return page_make(part, memory.data(), memory.size());
+}
+
+inline sizes page_read(std::span<const uint8_t> memory) noexcept
+{
+    return page_read(memory.data(), memory.size());
+}
+
+inline uint16_t page_check(std::span<const uint8_t> bytes) noexcept
+{
+    return page_check(bytes.data(), bytes.size());
+}
+#endif
 
 } // namespace sleetanvil
 

@@ -7,6 +7,7 @@
 //! * [`lent`] has the same calls over borrowed memory, [`raw`] the C interface's own types.
 //! * [`Log`], [`Record`] and [`Records`] write and read bus logs.
 //! * [`Keeper`] says whose transfer is next where four cores share one device.
+//! * [`page`] makes and reads the parameter page, from which boot code sizes a part.
 //!
 //! What the machine is and what each refusal means stands in the project's `docs/MACHINE.md`. The
 //! independent model against which the library is tested and measured, `paper`, is no part of this
@@ -36,6 +37,7 @@ mod geometry;
 mod keeper;
 pub mod lent;
 mod log;
+pub mod page;
 #[doc(hidden)]
 #[allow(missing_docs)]
 pub mod paper;
@@ -58,8 +60,8 @@ pub mod raw {
         bench, blank, cache_length, cells_length, counts_length, deselect, fm25s005bi3,
         geometry_sound, judge, keeper_add, keeper_grant, keeper_new, level, next, operation_length,
         page_check, page_make, page_read, peek, power, power_up, run, select, shift, shifts,
-        state_sound, text, transfer, units_left, version, work, write, RawAdded, RawAnswer, RawFound,
-        RawGranted, RawJudged, RawKeeper, RawPeeked, RawQueue, RawRecord, RawSizes, RawWrote, TEXT,
-        VERSION,
+        state_sound, text, transfer, units_left, version, work, write, RawAdded, RawAnswer,
+        RawFound, RawGranted, RawJudged, RawKeeper, RawPeeked, RawQueue, RawRecord, RawSizes,
+        RawWrote, TEXT, VERSION,
     };
 }

@@ -43,6 +43,13 @@ fn keepers_from_c() {
 }
 
 #[test]
+fn pages_from_c() {
+    for names in C {
+        Compiler::c(names).run_test("page.c", &[]);
+    }
+}
+
+#[test]
 fn sleetanvil_device_h_from_c() {
     for names in C {
         Compiler::c(names).run_test("device.c", &[]);
@@ -53,7 +60,7 @@ fn sleetanvil_device_h_from_c() {
 fn sleetanvil_hpp_from_cpp() {
     for names in CPP {
         let compiler = Compiler::cpp(names);
-        for source in ["device.cpp", "keeper.cpp"] {
+        for source in ["device.cpp", "keeper.cpp", "page.cpp"] {
             compiler.run_test(source, &["-Wold-style-cast"]);
         }
     }
@@ -65,41 +72,48 @@ fn c_headers_from_cpp() {
     Compiler::cpp(CPP[0]).run_test("run_log.c", &[]);
     for names in CPP {
         let compiler = Compiler::cpp(names);
-        for source in ["run_log.c", "device.c", "keeper.c"] {
+        for source in ["run_log.c", "device.c", "keeper.c", "page.c"] {
             run(compiler.strict(source).arg("-fsyntax-only"));
         }
     }
 }
 
-/// The programs in the project's papers, as they stand there.
+/// The programs in the project's papers, as they stand there, and what each of them prints.
 #[test]
 fn programs_of_the_papers() {
-    let printed = |paper| Compiler::c(C[0]).run_test(&program_of(paper), &[]);
-    assert_eq!(printed("README.md"), "5A 01\n");
+    let printed = |paper| -> Vec<String> {
+        let run = |source: &String| Compiler::c(C[0]).run_test(source, &[]);
+        programs_of(paper).iter().map(run).collect()
+    };
+    assert_eq!(printed("README.md"), ["5A 01\n"]);
     assert_eq!(
         printed("docs/FOR-DRIVERS.md"),
-        "core 0: 00\ncore 1: FF\ncore 3: 01\ncore 0: 02\n"
+        [
+            "core 0: 00\ncore 1: FF\ncore 3: 01\ncore 0: 02\n",
+            "copy 1: 2048 + 128 bytes a page, 64 pages a block, 512 blocks\n",
+        ]
     );
 }
 
-/// The program that stands in a paper of the project, as a file of its own.
-fn program_of(paper: &str) -> String {
+/// The programs that stand in a paper of the project, in its order, each as a file of its own.
+fn programs_of(paper: &str) -> Vec<String> {
     let project = Path::new(env!("CARGO_MANIFEST_DIR")).join("..");
     let text = fs::read_to_string(project.join(paper)).expect("a paper");
-    let lines = text
-        .lines()
-        .skip_while(|line| *line != "    #include <stdio.h>");
-    let mut program = Vec::new();
-    for line in lines {
-        program.push(line.strip_prefix("    ").unwrap_or(line));
-        if line == "    }" {
-            break;
+    let mut lines = text.lines();
+    let mut programs = Vec::new();
+    while let Some(first) = lines.find(|line| *line == "    #include <stdio.h>") {
+        let mut program = vec![first];
+        while program.last() != Some(&"    }") {
+            program.push(lines.next().expect("the end of a program"));
         }
+        let plain = |line: &&str| String::from(line.strip_prefix("    ").unwrap_or(line));
+        let plain: Vec<_> = program.iter().map(plain).collect();
+        let name = format!("{}_{}.c", paper.replace(['/', '.'], "_"), programs.len());
+        let source = Path::new(env!("CARGO_TARGET_TMPDIR")).join(name);
+        fs::write(&source, plain.join("\n") + "\n").expect("a file of the tests");
+        programs.push(source.to_str().expect("a plain path").into());
     }
-    let name = paper.replace(['/', '.'], "_") + ".c";
-    let source = Path::new(env!("CARGO_TARGET_TMPDIR")).join(name);
-    fs::write(&source, program.join("\n") + "\n").expect("a file of the tests");
-    source.to_str().expect("a plain path").into()
+    programs
 }
 
 /// The archive has the functions that the header names, and no others.
@@ -113,7 +127,7 @@ fn the_archive_has_the_headers_functions() {
     let archive = fs::read(env!("SLEETANVIL_ARCHIVE")).expect("the archive");
     let exported = index(&archive).expect("an index of names");
     assert_eq!(exported, declared);
-    assert!(declared.contains("sleet_run") && declared.contains("sleet_keeper_grant"));
+    assert!(declared.contains("sleet_run") && declared.contains("sleet_page_make"));
 }
 
 /// The name of the function that is declared at a place of the header: the line begins with its

@@ -1,4 +1,4 @@
-//! The command-line program from outside: its logs, images, trace and refusals.
+//! The command-line program from outside: its logs, images, trace, parameter pages and refusals.
 
 mod support;
 
@@ -9,7 +9,7 @@ use std::os::unix::net::UnixListener;
 use std::path::{Path, PathBuf};
 use std::process::{Child, Command, Output, Stdio};
 
-use sleetanvil::{Device, Geometry, Log, Record, Records};
+use sleetanvil::{page, Device, Geometry, Log, Record, Records, Refusal};
 use support::generate::Generator;
 
 /// The log of document 01.
@@ -121,7 +121,14 @@ fn program(row: u16, byte: u8) -> Log {
 
 #[test]
 fn help_and_version() {
-    for args in [&["--help"][..], &["-h"], &["help"], &["replay", "--help"]] {
+    for args in [
+        &["--help"][..],
+        &["-h"],
+        &["help"],
+        &["replay", "--help"],
+        &["page", "--help"],
+        &["page", "-o", "a", "-h"],
+    ] {
         let help = succeeds(&sleetanvil(args));
         for word in [
             "usage:",
@@ -132,6 +139,8 @@ fn help_and_version() {
             "--expect",
             "--trace",
             "--judge",
+            "--read",
+            "-o FILE",
             "SLEETIMG",
         ] {
             assert!(help.contains(word), "{word}");
@@ -161,6 +170,31 @@ fn a_bad_command_line() {
         (&["replay", "--fast=yes", "a"], "no such option: --fast"),
         (&["replay", "--=a", "a"], "-- takes no value"),
         (&["replay", "--bytes=", "a"], "not a number: "),
+        (&["replay", "-o", "a", "b"], "no such option: -o"),
+        (&["replay", "--read", "a"], "no such option: --read"),
+        (&["page"], "page needs -o or --read"),
+        (&["page", "--part", "bench"], "page needs -o or --read"),
+        (&["page", "a"], "by -o or --read: a"),
+        (&["page", "-"], "by -o or --read: -"),
+        (&["page", "-o", "a", "b"], "by -o or --read: b"),
+        (&["page", "-o"], "-o needs a value"),
+        (&["page", "--read"], "--read needs a value"),
+        (&["page", "-o", "a", "--read", "b"], "-o and --read"),
+        (&["page", "--read=b", "--out=a"], "-o and --read"),
+        (
+            &["page", "--part", "bench", "--read", "b"],
+            "--part and --read",
+        ),
+        (
+            &["page", "--part", "bench", "-o", "a", "--read", "b"],
+            "-o and --read",
+        ),
+        (&["page", "-o", "a", "--out", "b"], "--out is given twice"),
+        (&["page", "--read", "a", "--read", "b"], "twice"),
+        (&["page", "--part", "other", "-o", "a"], "no such part"),
+        (&["page", "--trace", "-o", "a"], "no such option: --trace"),
+        (&["page", "-o=a"], "no such option: -o=a"),
+        (&["page", "--", "-o", "a"], "no such option: --"),
     ] {
         fails(&sleetanvil(args), 2, message);
     }
@@ -1061,4 +1095,254 @@ fn nobody_reads_the_output() {
         assert_eq!(text(&output.stderr), "");
         assert_eq!(output.status.code(), Some(141));
     }
+}
+
+/// The three copies of a part's page.
+fn copies(part: &Geometry) -> Vec<u8> {
+    let mut bytes = vec![0; page::COPIES * page::LEN];
+    for copy in bytes.chunks_exact_mut(page::LEN) {
+        page::make(part, copy).expect("a sound part");
+    }
+    bytes
+}
+
+/// Put the check of a copy behind it.
+fn put_check(copy: &mut [u8]) {
+    let check = page::check(&copy[..254]);
+    copy[254..256].copy_from_slice(&check.to_le_bytes());
+}
+
+/// The lines of the copies, the bytes of the table put together again, and the last line.
+fn page_read(text: &str) -> (Vec<&str>, Vec<u8>, &str) {
+    let lines: Vec<_> = text.lines().collect();
+    let (copies, rest) = lines.split_at(3);
+    let [empty, title, table @ .., blank, last] = rest else {
+        panic!("{text}");
+    };
+    assert!(empty.is_empty() && blank.is_empty(), "{text}");
+    let number = title.strip_prefix("fields of copy ").expect("a title");
+    assert_eq!(number.len(), 2, "{title}");
+    let (mut bytes, mut end) = (Vec::new(), 0);
+    for line in table {
+        let places = line[..9].trim();
+        if !places.is_empty() {
+            // Each field begins where the one before it ended, and has the bytes that it says.
+            let (from, to) = places.split_once('-').unwrap_or((places, places));
+            let place = |text: &str| text.parse::<usize>().expect("a place");
+            assert_eq!((bytes.len(), end), (place(from), place(from)), "{line}");
+            end = place(to) + 1;
+        }
+        let shown = &line[65..];
+        let byte = |text: &str| u8::from_str_radix(text, 16).expect("a byte");
+        match shown.split_once(", ") {
+            Some((one, times)) => {
+                let times = times.strip_suffix(" times").expect("how many");
+                let times = times.parse().expect("a number");
+                bytes.extend(std::iter::repeat_n(byte(one), times));
+            }
+            None => bytes.extend(shown.split(' ').map(byte)),
+        }
+    }
+    assert_eq!((bytes.len(), end), (page::LEN, page::LEN));
+    (copies.to_vec(), bytes, last)
+}
+
+#[test]
+fn a_page_is_written_and_read_back() {
+    let folder = Folder::new("a_page_is_written_and_read_back");
+    let file = folder.file("page");
+    let bench = "D 16, S 4, K 4, N 8: a sound geometry, that of bench";
+    let real = "D 2048, S 128, K 64, N 512: a sound geometry, that of fm25s005bi3";
+    let (out, read) = (format!("--out={file}"), format!("--read={file}"));
+    for (args, part, check, sizes) in [
+        (&["-o", &file][..], Geometry::bench(), "F954h", bench),
+        (
+            &["--part", "FM25S005BI3", "-o", &file],
+            Geometry::fm25s005bi3(),
+            "B77Ch",
+            real,
+        ),
+        (&[&out, "--part=bench"], Geometry::bench(), "F954h", bench),
+    ] {
+        assert_eq!(succeeds(&sleetanvil(&[&["page"], args].concat())), "");
+        let saved = fs::read(&file).expect("the page");
+        assert_eq!(saved, copies(&part));
+        assert_eq!(folder.names(), ["page"]);
+
+        let text = succeeds(&sleetanvil(&["page", &read]));
+        let (lines, bytes, last) = page_read(&text);
+        let line = |copy, bytes| format!("copy {copy}, bytes {bytes}: holds; check {check}");
+        let wanted = [
+            line(0, "0 to 255"),
+            line(1, "256 to 511"),
+            line(2, "512 to 767"),
+        ];
+        assert_eq!(lines, wanted);
+        assert_eq!(bytes, saved[..page::LEN]);
+        assert_eq!(last, sizes);
+        // From standard input, with what a whole page of the array has behind the copies.
+        let longer = [&saved[..], &[0xFF; 1408]].concat();
+        let again = with_input(&["page", "--read", "-"], &longer);
+        assert_eq!(succeeds(&again), text);
+    }
+    let output = sleetanvil(&["page", "-o", "-"]);
+    assert_eq!(output.status.code(), Some(0));
+    assert_eq!(output.stdout, copies(&Geometry::bench()));
+}
+
+/// What each field says, of the real part.
+#[test]
+fn a_page_is_put_into_words() {
+    let output = with_input(&["page", "--read", "-"], &copies(&Geometry::fm25s005bi3()));
+    let text = succeeds(&output);
+    for (places, what, says) in [
+        ("0-3", "signature", "\"ONFI\""),
+        ("6-7", "features supported", "no bit"),
+        ("8-9", "optional commands supported", "bits 1, 2"),
+        ("32-43", "manufacturer", "\"FUDANMICRO\""),
+        ("44-63", "model", "\"FM25S005BI3\""),
+        ("64", "manufacturer's identity", "A1h"),
+        ("80-83", "D, data bytes per page", "2048"),
+        ("84-85", "S, spare bytes per page", "128"),
+        ("92-95", "K, pages per block", "64"),
+        ("96-99", "N, blocks per logical unit", "512"),
+        ("103-104", "bad blocks per unit, at most", "10"),
+        ("105-106", "endurance of a block", "5 * 10^4"),
+        ("110", "programs per page", "4"),
+        ("128", "pin capacitance, at most", "8 pF"),
+        ("133-134", "page program, at most", "900 us"),
+        ("135-136", "block erase, at most", "10000 us"),
+        ("137-138", "page read, at most", "105 us"),
+        ("166-253", "vendor's own", "all 00h"),
+        ("254-255", "check", "B77Ch"),
+    ] {
+        let line = format!("{places:>9}  {what:<28}  {says:<22}  ");
+        assert!(text.contains(&line), "no `{line}` in\n{text}");
+    }
+}
+
+/// The first copy that holds is the one that is shown, and each of the others has its reason.
+#[test]
+fn a_page_with_damaged_copies() {
+    let folder = Folder::new("a_page_with_damaged_copies");
+    let mut bytes = copies(&Geometry::fm25s005bi3());
+    bytes[256 + 84] = 0x40; // another S, and a check to it
+    put_check(&mut bytes[256..512]);
+    bytes[84] = 0x05;
+    bytes[512..516].copy_from_slice(b"ONFX");
+    let stored = page::check(&copies(&Geometry::fm25s005bi3())[..254]);
+    let computed = page::check(&bytes[..254]);
+    let second = page::check(&bytes[256..510]);
+    let file = folder.write("page", &bytes);
+    let text = succeeds(&sleetanvil(&["page", "--read", &file]));
+    let (lines, table, last) = page_read(&text);
+    assert_eq!(
+        lines,
+        [
+            format!("copy 0, bytes 0 to 255: wrong check: stored {stored:04X}h, computed {computed:04X}h"),
+            format!("copy 1, bytes 256 to 511: holds; check {second:04X}h"),
+            "copy 2, bytes 512 to 767: no signature: 4Fh 4Eh 46h 58h, not 4Fh 4Eh 46h 49h".into(),
+        ]
+    );
+    assert!(text.contains("\nfields of copy 1:\n"));
+    assert_eq!(table, bytes[256..512]);
+    assert_eq!(
+        last,
+        "D 2048, S 64, K 64, N 512: a sound geometry, of no named part"
+    );
+
+    // None holds: the copies are told all the same, and no table.
+    bytes[256] = 0x00;
+    let file = folder.write("page", &bytes);
+    let output = sleetanvil(&["page", "--read", &file]);
+    fails(
+        &output,
+        1,
+        &format!("{file}: {} (refusal 10)", Refusal::NoCopy),
+    );
+    let told = text_of_copies(&output);
+    assert!(told[0].contains("wrong check") && told[2].contains("no signature"));
+    assert!(
+        told[1].contains("no signature: 00h 4Eh 46h 49h"),
+        "{told:?}"
+    );
+    assert_eq!(fs::read(&file).expect("the page"), bytes);
+}
+
+/// The three lines of the copies where nothing else is printed.
+fn text_of_copies(output: &Output) -> [String; 3] {
+    let lines: Vec<_> = text(&output.stdout).lines().map(String::from).collect();
+    lines.try_into().expect("three lines")
+}
+
+/// Bytes that no table knows come out as they stand, and sizes that no part has are told to be so.
+#[test]
+fn a_page_of_any_bytes() {
+    let mut bytes = vec![0; 768];
+    for (place, byte) in bytes[512..].iter_mut().enumerate() {
+        *byte = (place * place / 3 + 7) as u8;
+    }
+    bytes[512..516].copy_from_slice(b"ONFI");
+    bytes[512 + 32..512 + 44].copy_from_slice(b"a \"b\"\0\xFF     ");
+    bytes[512 + 166..512 + 254].fill(0xEE);
+    bytes[512 + 80..512 + 100].fill(0xFF);
+    put_check(&mut bytes[512..]);
+    let text = succeeds(&with_input(&["page", "--read", "-"], &bytes));
+    let (lines, table, last) = page_read(&text);
+    assert!(lines[2].contains(": holds; check "), "{text}");
+    assert_eq!(table, bytes[512..]);
+    assert_eq!(
+        last,
+        "D 4294967295, S 65535, K 4294967295, N 4294967295: not a sound geometry, no device can \
+         have it"
+    );
+    assert!(text.contains(r#"  "a "b".."    "#), "{text}");
+    assert!(text.contains("not all 00h             EE, 88 times\n"));
+}
+
+#[test]
+fn a_page_that_is_too_short() {
+    let folder = Folder::new("a_page_that_is_too_short");
+    let good = copies(&Geometry::bench());
+    for length in [0, 1, 256, 767] {
+        let file = folder.write("page", &good[..length]);
+        let told = format!("{} (refusal 11): {length} bytes", Refusal::ShortMemory);
+        for output in [
+            sleetanvil(&["page", "--read", &file]),
+            with_input(&["page", "--read", "-"], &good[..length]),
+        ] {
+            fails(&output, 1, &told);
+            assert!(output.stdout.is_empty());
+        }
+    }
+    let missing = folder.file("missing");
+    fails(&sleetanvil(&["page", "--read", &missing]), 1, "missing: ");
+    let inner = folder.file("");
+    fails(&sleetanvil(&["page", "--read", &inner]), 1, &inner);
+}
+
+/// A page is saved as an image is: whole, by its old mode, and over nothing but a file.
+#[test]
+fn a_page_is_saved_as_other_files_are() {
+    let folder = Folder::new("a_page_is_saved_as_other_files_are");
+    let file = folder.write("page", b"old");
+    fs::set_permissions(&file, Permissions::from_mode(0o640)).expect("a mode");
+    symlink("page", folder.file("link")).expect("a link");
+    succeeds(&sleetanvil(&["page", "-o", &folder.file("link")]));
+    assert_eq!(
+        fs::read(&file).expect("the page"),
+        copies(&Geometry::bench())
+    );
+    assert_eq!(mode(&file), 0o640);
+    let (inner, none) = (folder.file("inner"), folder.file("no/page"));
+    fs::create_dir(&inner).expect("a folder");
+    for (path, message) in [
+        (&inner[..], "it is a folder, not a file"),
+        ("/dev/null", "it is a device, not a file"),
+        (&none, "there is no folder"),
+    ] {
+        let output = sleetanvil(&["page", "-o", path]);
+        fails(&output, 1, &format!("{path}: cannot save: {message}"));
+    }
+    assert_eq!(folder.names(), ["inner", "link", "page"]);
 }

@@ -1,9 +1,11 @@
-//! The safe wrapper: devices, logs, keepers and refusals as a Rust program uses them.
+//! The safe wrapper: devices, logs, keepers, parameter pages and refusals as a Rust program uses
+//! them.
 
 use std::collections::HashSet;
 use std::error::Error;
 
 use sleetanvil::lent::{self, Memory};
+use sleetanvil::page::{self, Sizes};
 use sleetanvil::{Device, Geometry, Grant, Job, Keeper, Log, Record, Records, Refusal, State};
 
 /// A bench part that has done its power-up read and is unlocked.
@@ -355,6 +357,127 @@ fn a_keeper_is_kept_and_comes_back() {
     }
 }
 
+/// The three copies of a part's page.
+fn copies(part: &Geometry) -> Vec<u8> {
+    let mut memory = vec![0x5E; page::COPIES * page::LEN];
+    for copy in memory.chunks_exact_mut(page::LEN) {
+        page::make(part, copy).expect("a sound part");
+    }
+    memory
+}
+
+#[test]
+fn a_page_is_made_of_a_part() {
+    for (part, check) in [
+        (Geometry::fm25s005bi3(), 0xB77C_u16),
+        (Geometry::bench(), 0xF954),
+    ] {
+        let mut memory = [0x5E; 300];
+        assert_eq!(page::make(&part, &mut memory), Ok(()));
+        assert_eq!(memory[page::LEN..], [0x5E; 44]);
+        assert_eq!(memory[..4], *b"ONFI");
+        assert_eq!(memory[32..44], *b"FUDANMICRO  ");
+        assert_eq!(memory[44..64], *b"FM25S005BI3         ");
+        assert_eq!(memory[80..84], part.data.to_le_bytes());
+        assert_eq!(memory[84..88], part.spare.to_le_bytes());
+        assert_eq!(memory[92..96], part.pages.to_le_bytes());
+        assert_eq!(memory[96..100], part.blocks.to_le_bytes());
+        assert_eq!(memory[254..256], check.to_le_bytes());
+        assert_eq!(page::check(&memory[..254]), check);
+        assert!(copies(&part)
+            .chunks(page::LEN)
+            .all(|copy| copy == &memory[..page::LEN]));
+    }
+    assert_eq!(page::check(b"123456789"), 0x2771);
+    assert_eq!(page::check(&[]), 0x4F4E);
+}
+
+#[test]
+fn a_part_is_sized_from_its_page() {
+    let part = Geometry::bench();
+    let mut memory = copies(&part);
+    let sizes = |copy| Sizes {
+        copy,
+        data: 16,
+        spare: 4,
+        pages: 4,
+        blocks: 8,
+    };
+    assert_eq!(page::read(&memory), Ok(sizes(0)));
+    memory[0] = b'o';
+    assert_eq!(page::read(&memory), Ok(sizes(1)));
+    memory[256 + 200] = 0x01;
+    assert_eq!(page::read(&memory), Ok(sizes(2)));
+    assert_eq!(sizes(2).geometry(part.identity), part);
+    // What stands behind the copies is not looked at.
+    memory.extend([0x00; 1280]);
+    assert_eq!(page::read(&memory), Ok(sizes(2)));
+    memory[512 + 254] ^= 0x01;
+    let before = memory.clone();
+    assert_eq!(page::read(&memory), Err(Refusal::NoCopy));
+    assert_eq!(memory, before);
+}
+
+/// Only signature and check are judged: sizes that no part can have are answered as they stand.
+#[test]
+fn a_page_may_hold_any_sizes() {
+    let mut memory = copies(&Geometry::bench());
+    memory[80..100].fill(0xFF);
+    let check = page::check(&memory[..254]);
+    memory[254..256].copy_from_slice(&check.to_le_bytes());
+    let sizes = page::read(&memory).expect("a copy that holds");
+    let (large, spare) = (u32::MAX, u16::MAX);
+    assert_eq!((sizes.copy, sizes.data, sizes.spare), (0, large, spare));
+    assert_eq!((sizes.pages, sizes.blocks), (large, large));
+    let part = sizes.geometry([0xA1, 0xD5]);
+    assert_eq!((part.spare, part.identity), (0xFFFF, [0xA1, 0xD5]));
+    assert_eq!(Device::power_up(part), Err(Refusal::BadPart));
+}
+
+/// The cache register is the caller's between calls: a simulator puts the page there where the real
+/// part has it.
+#[test]
+fn a_page_is_answered_over_the_bus() {
+    let part = Geometry::fm25s005bi3();
+    let mut device = Device::power_up(part).expect("sound");
+    device.work(2176);
+    device.transfer(&[0x1F, 0xB0, 0x50]);
+    assert_eq!(device.state().b0, 0x10, "OTP_EN is not stored");
+    device.transfer(&[0x13, 0x00, 0x00, 0x01]);
+    device.work(device.units_left() as u64);
+    let read_cache = [&[0x03, 0, 0, 0][..], &[0; 768]].concat();
+    let out = device.transfer(&read_cache);
+    assert_eq!(page::read(&out[4..]), Err(Refusal::NoCopy));
+    device.cache_mut()[..768].copy_from_slice(&copies(&part));
+    let out = device.transfer(&read_cache);
+    let sizes = page::read(&out[4..]).expect("a copy that holds");
+    assert_eq!(sizes.geometry(part.identity), part);
+}
+
+#[test]
+fn a_page_that_is_refused_changes_nothing() {
+    let mut unsound = Geometry::bench();
+    unsound.blocks = 0;
+    let mut memory = [0x5E; 768];
+    assert_eq!(page::make(&unsound, &mut memory), Err(Refusal::BadPart));
+    for length in 0..page::LEN {
+        let short = &mut memory[..length];
+        assert_eq!(page::make(&unsound, short), Err(Refusal::BadPart));
+        let made = page::make(&Geometry::bench(), short);
+        assert_eq!(made, Err(Refusal::ShortMemory));
+    }
+    for length in 0..768 {
+        assert_eq!(page::read(&memory[..length]), Err(Refusal::ShortMemory));
+    }
+    assert_eq!(page::read(&memory), Err(Refusal::NoCopy));
+    assert_eq!(memory, [0x5E; 768]);
+    let raw = sleetanvil::raw::page_read(&memory);
+    assert_eq!((raw.refusal, raw.copy, raw.data), (10, 0, 0));
+    assert_eq!((raw.spare, raw.pages, raw.blocks), (0, 0, 0));
+    let good = copies(&Geometry::bench());
+    assert_eq!(page::read(&good[..767]), Err(Refusal::ShortMemory));
+}
+
 #[test]
 fn refusals_have_numbers_and_words() {
     let expected = [
@@ -367,6 +490,8 @@ fn refusals_have_numbers_and_words() {
         (Refusal::ShortBody, 7, "inside a body"),
         (Refusal::BadLevel, 8, "WP#"),
         (Refusal::NoRoom, 9, "no output room"),
+        (Refusal::NoCopy, 10, "copy"),
+        (Refusal::ShortMemory, 11, "short"),
         (Refusal::BadCore, 14, "a core above 3"),
         (Refusal::QueueFull, 15, "eight transfers wait in that queue"),
         (Refusal::AllEmpty, 16, "no transfer waits"),

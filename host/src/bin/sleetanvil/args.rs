@@ -8,12 +8,15 @@ use std::path::PathBuf;
 use sleetanvil::Geometry;
 
 pub const HELP: &str = "\
-sleetanvil - replays bus logs on a proved model of a serial NAND flash
+sleetanvil - replays bus logs on a proved model of a serial NAND flash, and
+makes and reads its parameter page
 
 usage:
-  sleetanvil replay [options] LOG    replay a log file; - is standard input
-  sleetanvil --help                  print this text
-  sleetanvil --version               print the version
+  sleetanvil replay [options] LOG        replay a log file; - is standard input
+  sleetanvil page [--part NAME] -o FILE  make the parameter page of a part
+  sleetanvil page --read FILE            read one, and say what stands in it
+  sleetanvil --help                      print this text
+  sleetanvil --version                   print the version
 
 options of replay; a value may also be given as --part=NAME:
   --part NAME     the part: bench or fm25s005bi3; bench if neither this nor
@@ -43,9 +46,23 @@ options of replay; a value may also be given as --part=NAME:
                   the one reached if each operation is done whole as it begins.
                   Of a log that is refused it speaks of the records done
 
-The last line printed is `end`, the number of refusal and the records done;
-`end 0 8` is a log of 8 records read to its end. Records, and the bytes of a
-log and of the bytes on DO, are numbered from 0.
+options of page; boot code sizes a part from this page:
+  --part NAME     the part whose page is made: bench or fm25s005bi3; bench if
+                  not given
+  -o FILE         where to put the three copies of the page, 768 bytes; - is
+  --out FILE      standard output
+  --read FILE     the file to read three copies from; - is standard input. For
+                  each copy a line says whether its signature and check hold;
+                  then come the fields of the first copy that does, a line for
+                  each: its bytes by number, what it is, what it says, and the
+                  bytes in hex; and last the four sizes that a driver needs, and
+                  whether they are a sound geometry. What stands behind the 768
+                  bytes is not read. Fewer bytes, or no copy that holds, is
+                  refused by number
+
+The last line that replay prints is `end`, the number of refusal and the records
+done; `end 0 8` is a log of 8 records read to its end. Records, and the bytes of
+a log, of the bytes on DO and of a page, are numbered from 0.
 
 A log is a row of records: a byte of kind, then a body.
   01      chip select falls           04 nn nn  array work, low byte first
@@ -72,12 +89,13 @@ of version 2 is what is saved.
 
 A file is saved under another name in the same folder and then renamed, so that
 it is whole or as it was. Links are followed, and a file that is replaced gives
-its mode to the new one; what is there and is not a file is refused before the
-replay. A log that is refused leaves it as it was.
+its mode to the new one; what is there and is not a file is refused before
+anything is done. A log that is refused leaves it as it was.
 
 exit status:
   0    done
-  1    a bad file, a refused log (judged or not), or output that differs
+  1    a bad file, a refused log (judged or not), output that differs, or a
+       parameter page that is refused
   2    a bad command line
   3    with --judge: the log was read to its end, all is done, and the log is
        not orderly
@@ -91,6 +109,7 @@ pub enum Command {
     Help,
     Version,
     Replay(Replay),
+    Page(Page),
 }
 
 /// A replay and its options.
@@ -106,6 +125,13 @@ pub struct Replay {
     pub bytes: usize,
     pub judge: bool,
     pub log: Source,
+}
+
+/// A parameter page to be made or read.
+#[derive(Debug)]
+pub enum Page {
+    Make { part: Part, to: Destination },
+    Read { from: Source },
 }
 
 /// A part by name.
@@ -134,7 +160,7 @@ impl Part {
     }
 }
 
-/// Where a log comes from.
+/// Where a log or a page comes from.
 #[derive(Debug)]
 pub enum Source {
     Stdin,
@@ -150,6 +176,31 @@ impl fmt::Display for Source {
     }
 }
 
+impl Source {
+    fn of(name: OsString) -> Self {
+        match name == "-" {
+            true => Source::Stdin,
+            false => Source::File(name.into()),
+        }
+    }
+}
+
+/// Where a page goes.
+#[derive(Debug)]
+pub enum Destination {
+    Stdout,
+    File(PathBuf),
+}
+
+impl Destination {
+    fn of(name: OsString) -> Self {
+        match name == "-" {
+            true => Destination::Stdout,
+            false => Destination::File(name.into()),
+        }
+    }
+}
+
 /// What the arguments ask for, or what is wrong with them.
 pub fn parse(mut args: impl Iterator<Item = OsString>) -> Result<Command, String> {
     let first = args.next().ok_or("no command given")?;
@@ -157,6 +208,7 @@ pub fn parse(mut args: impl Iterator<Item = OsString>) -> Result<Command, String
         Some("--help" | "-h" | "help") => Ok(Command::Help),
         Some("--version" | "-V") => Ok(Command::Version),
         Some("replay") => parse_replay(args),
+        Some("page") => parse_page(args),
         _ => Err(format!("no such command: {}", first.to_string_lossy())),
     }
 }
@@ -210,6 +262,40 @@ fn parse_replay(mut args: impl Iterator<Item = OsString>) -> Result<Command, Str
         bytes: bytes.unwrap_or(16),
         judge,
         log: log.ok_or("no log given")?,
+    }))
+}
+
+fn parse_page(mut args: impl Iterator<Item = OsString>) -> Result<Command, String> {
+    let (mut part, mut to, mut from) = (None, None, None);
+    while let Some(arg) = args.next() {
+        let (option, attached) = split(&arg);
+        let mut value = || {
+            let value = attached.map(OsStr::to_os_string).or_else(|| args.next());
+            value.ok_or(format!("{option} needs a value"))
+        };
+        match option {
+            "--help" | "-h" => return Ok(Command::Help),
+            "--part" => set(&mut part, option, part_of(&value()?)?)?,
+            "-o" | "--out" => set(&mut to, option, Destination::of(value()?))?,
+            "--read" => set(&mut from, option, Source::of(value()?))?,
+            _ if option.starts_with('-') && option != "-" => {
+                return Err(format!("no such option: {option}"));
+            }
+            _ => {
+                let arg = arg.to_string_lossy();
+                return Err(format!("page takes its file by -o or --read: {arg}"));
+            }
+        }
+    }
+    Ok(Command::Page(match (part, to, from) {
+        (None, None, Some(from)) => Page::Read { from },
+        (part, Some(to), None) => Page::Make {
+            part: part.unwrap_or_default(),
+            to,
+        },
+        (_, None, None) => return Err("no file given: page needs -o or --read".into()),
+        (_, Some(_), Some(_)) => return Err("-o and --read do not go together".into()),
+        (Some(_), None, Some(_)) => return Err("--part and --read do not go together".into()),
     }))
 }
 

@@ -1,10 +1,12 @@
-//! The command-line program: replays bus logs on the proved model.
+//! The command-line program: replays bus logs on the proved model, and makes and reads parameter
+//! pages.
 
 mod args;
 mod image;
 mod instruction;
 mod judge;
 mod output;
+mod page;
 mod pieces;
 mod progress;
 mod protection;
@@ -24,7 +26,7 @@ use std::process::ExitCode;
 use args::Command;
 use replay::Ended;
 
-/// A bad file, a log that was refused, or output other than the one expected.
+/// A bad file, a log or a page that was refused, or output other than the one expected.
 const FAILED: u8 = 1;
 /// A bad command line.
 const MISUSED: u8 = 2;
@@ -63,6 +65,7 @@ fn main() -> ExitCode {
             print(concat!("sleetanvil ", env!("CARGO_PKG_VERSION"), "\n")).map(|()| Ended::Well)
         }
         Ok(Command::Replay(replay)) => replay::run(&replay),
+        Ok(Command::Page(page)) => page::run(&page).map(|()| Ended::Well),
         Err(message) => {
             tell(&format!("{message}\nTry `sleetanvil --help`."));
             return ExitCode::from(MISUSED);
@@ -79,10 +82,15 @@ fn main() -> ExitCode {
     }
 }
 
-/// Write to standard output.
+/// Write a text to standard output.
 pub fn print(text: &str) -> Result<(), Failure> {
+    put(text.as_bytes())
+}
+
+/// Write to standard output.
+pub fn put(bytes: &[u8]) -> Result<(), Failure> {
     let mut out = io::stdout().lock();
-    out.write_all(text.as_bytes())
+    out.write_all(bytes)
         .and_then(|()| out.flush())
         .map_err(Failure::of_stdout)
 }
