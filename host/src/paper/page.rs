@@ -103,7 +103,7 @@ pub fn make(part: &Part, memory: &mut [u8]) -> Result<(), u8> {
     }
     let page = memory.get_mut(..PAGE).ok_or(SHORT_MEMORY)?;
     for (place, length, value) in &TABLE {
-        page[*place..place + length].copy_from_slice(&value.bytes(*length, part));
+        value.write(&mut page[*place..place + length], part);
     }
     let [low, high] = check(&page[..CHECK]).to_le_bytes();
     (page[CHECK], page[CHECK + 1]) = (low, high);
@@ -137,16 +137,16 @@ fn number(bytes: &[u8]) -> u32 {
 }
 
 impl Value {
-    /// The bytes of a line that is so long.
-    fn bytes(&self, length: usize, part: &Part) -> Vec<u8> {
-        let (mut bytes, rest) = match self {
-            Zeros => (Vec::new(), 0x00),
-            Bytes(bytes) => (bytes.to_vec(), 0x00),
-            Text(text) => (text.as_bytes().to_vec(), 0x20),
-            Number(of) => (of(part).to_le_bytes()[..length].to_vec(), 0x00),
-        };
-        bytes.resize(length, rest);
-        bytes
+    fn write(&self, line: &mut [u8], part: &Part) {
+        match self {
+            Zeros => line.fill(0x00),
+            Bytes(bytes) => line.copy_from_slice(bytes),
+            Text(text) => {
+                line.fill(0x20);
+                line[..text.len()].copy_from_slice(text.as_bytes());
+            }
+            Number(of) => line.copy_from_slice(&of(part).to_le_bytes()[..line.len()]),
+        }
     }
 }
 

@@ -461,7 +461,7 @@ impl Generator {
                 }
                 return page;
             }
-            _ => {}
+            _ => return page,
         }
         mend(&mut page);
         page
