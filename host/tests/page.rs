@@ -212,12 +212,15 @@ mod wrong {
     #[derive(Clone, Copy)]
     struct Maker {
         sound: fn(&Part) -> bool,
+        /// How long the memory is at least and at most.
         least: usize,
+        most: usize,
         length_first: bool,
         /// How many bytes are written; from 256 on, the page begins anew.
         writes: usize,
         model_length: usize,
-        pad: u8,
+        /// What manufacturer and model are padded with.
+        pads: [u8; 2],
         /// A byte of the table at another value, mended before the check.
         other: Option<(usize, u8)>,
         identity: bool,
@@ -228,6 +231,7 @@ mod wrong {
     #[derive(Clone, Copy)]
     struct Reader {
         least: usize,
+        most: usize,
         copies_first: bool,
         /// How many bytes of the signature are asked.
         signature: usize,
@@ -257,10 +261,11 @@ mod wrong {
     const MAKER: Maker = Maker {
         sound: Part::is_sound,
         least: 256,
+        most: usize::MAX,
         length_first: false,
         writes: 256,
         model_length: 20,
-        pad: 0x20,
+        pads: [0x20; 2],
         other: None,
         identity: false,
         refused: |_| {},
@@ -268,6 +273,7 @@ mod wrong {
 
     const READER: Reader = Reader {
         least: 768,
+        most: usize::MAX,
         copies_first: false,
         signature: 4,
         check: true,
@@ -351,12 +357,14 @@ mod wrong {
     const OF_MAKER: &[(&str, Rules)] = &[
         ("makes a page in 255 bytes", maker(Maker { least: 255, ..MAKER })),
         ("makes no page in 256 bytes", maker(Maker { least: 257, ..MAKER })),
+        ("makes no page in 257 bytes", maker(Maker { most: 256, ..MAKER })),
         ("makes no page in less than 768 bytes", maker(Maker { least: 768, ..MAKER })),
         ("refuses with 11 before 1", maker(Maker { length_first: true, ..MAKER })),
         ("writes byte 256", maker(Maker { writes: 257, ..MAKER })),
         ("writes three copies", maker(Maker { writes: 768, ..MAKER })),
         ("leaves byte 255", maker(Maker { writes: 255, ..MAKER })),
-        ("pads with 00h", maker(Maker { pad: 0x00, ..MAKER })),
+        ("pads the manufacturer with 00h", maker(Maker { pads: [0x00, 0x20], ..MAKER })),
+        ("pads the model with 00h", maker(Maker { pads: [0x20, 0x00], ..MAKER })),
         ("has a model of 21 bytes", maker(Maker { model_length: 21, ..MAKER })),
         ("has a model of 19 bytes", maker(Maker { model_length: 19, ..MAKER })),
         ("has the part's own identity", maker(Maker { identity: true, ..MAKER })),
@@ -391,6 +399,7 @@ mod wrong {
         ("reads 767 bytes", reader(Reader { least: 767, ..READER })),
         ("reads any bytes", reader(Reader { least: 0, ..READER })),
         ("does not read 768 bytes", reader(Reader { least: 769, ..READER })),
+        ("does not read 769 bytes", reader(Reader { most: 768, ..READER })),
         ("refuses with 10 before 11", reader(Reader { copies_first: true, ..READER })),
         ("asks for no signature", reader(Reader { signature: 0, ..READER })),
         ("asks for three bytes of the signature", reader(Reader { signature: 3, ..READER })),
@@ -448,10 +457,9 @@ mod wrong {
         }
 
         fn make(&self, part: &Part, outcome: &mut Outcome) {
-            let (bad, short) = (
-                !(self.maker.sound)(part),
-                outcome.memory.len() < self.maker.least,
-            );
+            let bad = !(self.maker.sound)(part);
+            let lengths = self.maker.least..=self.maker.most;
+            let short = !lengths.contains(&outcome.memory.len());
             outcome.refusal = match (bad, short) {
                 (true, true) => [1, 11][usize::from(self.maker.length_first)],
                 (true, false) => 1,
@@ -479,13 +487,10 @@ mod wrong {
                     field.reverse();
                 }
             }
-            page[42..44].fill(self.maker.pad);
-            page[55..63].fill(self.maker.pad);
-            match self.maker.model_length {
-                19 => page[63] = 0x00,
-                20 => page[63] = self.maker.pad,
-                _ => page[63..65].fill(self.maker.pad),
-            }
+            let [of_manufacturer, of_model] = self.maker.pads;
+            page[42..44].fill(of_manufacturer);
+            page[63] = 0x00;
+            page[55..44 + self.maker.model_length].fill(of_model);
             if self.maker.identity {
                 page[64] = part.identity[0];
             }
@@ -500,7 +505,8 @@ mod wrong {
 
         fn read(&self, outcome: &mut Outcome) {
             let Outcome { memory, .. } = outcome;
-            let short = memory.len() < self.reader.least;
+            let lengths = self.reader.least..=self.reader.most;
+            let short = !lengths.contains(&memory.len());
             let copies = self.reader.copies.iter().filter_map(|(number, place)| {
                 let page = memory.get(*place..place + PAGE)?;
                 Some((*number, page))

@@ -366,7 +366,7 @@ impl Generator {
         loop {
             let mut part = self.sound_part();
             let far = self.number();
-            match self.rng.below(14) {
+            match self.rng.below(16) {
                 0 => part.data = 0,
                 1 => (part.data, part.spare) = (0, 0),
                 2 => part.spare = 4097 - part.data,
@@ -380,14 +380,11 @@ impl Generator {
                 10 => part.blocks = 65_536 / part.pages + 1,
                 11 => part.blocks = far,
                 12 => (part.pages, part.blocks) = (1, 65_537),
+                // A sum or a product that comes out small in 32 bits.
+                13 | 14 => (part.data, part.spare) = (part.data.wrapping_neg(), 2 * part.data),
                 _ => {
-                    // A sum or a product that would come out small in 32 bits.
-                    if self.rng.percent(50) {
-                        part.data = part.spare.wrapping_neg().wrapping_add(part.data);
-                    } else {
-                        part.pages = 1 << self.rng.within(0, 8);
-                        part.blocks = (u32::MAX / part.pages).wrapping_add(1 + far % 8);
-                    }
+                    part.pages = 1 << self.rng.within(0, 8);
+                    part.blocks = (u32::MAX / part.pages).wrapping_add(1 + far % 8);
                 }
             }
             if !part.is_sound() {
