@@ -39,9 +39,12 @@ fn expected_lines_anew() {
 
 fn compare(subject: Subject) {
     let expected = fs::read_to_string(path("stdout")).expect("the expected lines");
-    let expected: Vec<&str> = expected.lines().collect();
-    assert!(!expected.is_empty());
-    assert_eq!(printed(subject), expected);
+    let (printed, expected) = (printed(subject), expected.lines());
+    assert!(!printed.is_empty());
+    assert_eq!(printed.len(), expected.clone().count());
+    for (line, expected) in printed.iter().zip(expected) {
+        assert_eq!(line, expected);
+    }
 }
 
 /// The lines of all cases.

@@ -191,19 +191,22 @@ pub fn mend(page: &mut [u8]) {
 /// The call, and how the memory differs from the plain one: enough to make the case again.
 impl fmt::Display for Case {
     fn fmt(&self, f: &mut fmt::Formatter<'_>) -> fmt::Result {
-        writeln!(f, "{:?} with {} bytes:", self.call, self.memory.len())?;
-        write!(f, "three pages of the FM25S005BI3 and A5h, but for")?;
         let plain = plain(self.memory.len());
         let places = (0..plain.len()).filter(|place| self.memory[*place] != plain[*place]);
-        let mut last = None;
+        writeln!(f, "{:?} with {} bytes:", self.call, plain.len())?;
+        write!(f, "three pages of the FM25S005BI3 and A5h, but for")?;
+        let mut next = None;
         for place in places {
-            if last.is_none_or(|last| place != last + 1) {
+            if next != Some(place) {
                 write!(f, "\n{place:04X}:")?;
             }
             write!(f, " {:02X}", self.memory[place])?;
-            last = Some(place);
+            next = Some(place + 1);
         }
-        write!(f, "\n({} bytes)", self.memory.len())
+        if next.is_none() {
+            write!(f, " nothing")?;
+        }
+        Ok(())
     }
 }
 
