@@ -9,7 +9,7 @@ mod support;
 use sleetanvil::paper::{page, Part};
 use sleetanvil::raw;
 use support::hunt::{cases, seed};
-use support::paging::{difference, hunt, library, model, page_of, plain};
+use support::paging::{difference, hunt, library, model, page_of, plain, sizes};
 use support::paging::{Call, Case, Generator, Outcome, PAGE};
 
 #[test]
@@ -35,7 +35,7 @@ fn known_checks() {
     }
 }
 
-/// All stretches of one byte and of two: every entry of a table, from every entry.
+/// All stretches of one byte and of two: every entry of a table, and each behind each.
 #[test]
 fn every_short_stretch() {
     for first in 0..=255 {
@@ -50,19 +50,14 @@ fn every_short_stretch() {
 /// Memory of every length, with three good copies, with none, and for the maker.
 #[test]
 fn every_length() {
-    let part = Part::BENCH;
     for length in 0..=1100 {
-        let copies = plain(length);
-        let blank = vec![0xA5; length];
-        let making = Call::Make(part.into());
+        let (copies, blank) = (plain(length), vec![0xA5; length]);
+        let make = Call::Make(Part::BENCH.into());
+        let [short, shorter] = [length < 768, length < 256];
         let refusals = [
-            (
-                copies.clone(),
-                Call::Read,
-                [11, 0][usize::from(length >= 768)],
-            ),
-            (blank, Call::Read, [11, 10][usize::from(length >= 768)]),
-            (copies, making, [11, 0][usize::from(length >= 256)]),
+            (copies.clone(), Call::Read, if short { 11 } else { 0 }),
+            (blank, Call::Read, if short { 11 } else { 10 }),
+            (copies, make, if shorter { 11 } else { 0 }),
         ];
         for (memory, call, refusal) in refusals {
             let case = Case { call, memory };
@@ -86,28 +81,24 @@ fn every_changed_byte_is_noticed() {
         for copy in 0..damaged {
             memory[copy * PAGE] ^= 0xFF;
         }
-        let mut expected = Outcome {
-            refusal: 10,
-            ..Outcome::default()
+        let expected = match parts.get(damaged + 1) {
+            Some(next) => (0, damaged as u8 + 1, sizes_of(next)),
+            None => (10, 0, [0; 4]),
         };
-        if let Some(next) = parts.get(damaged + 1) {
-            expected.refusal = 0;
-            expected.copy = damaged as u8 + 1;
-            expected.sizes = [next.data, next.spare, next.pages, next.blocks];
-        }
         for place in damaged * PAGE..(damaged + 1) * PAGE {
             for change in 1..=255 {
                 memory[place] ^= change;
                 let answer = raw::page_read(&memory);
-                let spare = answer.spare.into();
-                let sizes = [answer.data, spare, answer.pages, answer.blocks];
-                let got = (answer.refusal, answer.copy, sizes);
-                let expected = (expected.refusal, expected.copy, expected.sizes);
+                let got = (answer.refusal, answer.copy, sizes(answer));
                 assert_eq!(got, expected, "byte {place} changed by {change:02X}h");
                 memory[place] ^= change;
             }
         }
     }
+}
+
+fn sizes_of(part: &Part) -> [u32; 4] {
+    [part.data, part.spare, part.pages, part.blocks]
 }
 
 /// P, and K times N.
@@ -153,10 +144,8 @@ fn first_copy_that_holds() {
                 bytes[..length].copy_from_slice(&pages[usize::from(first)][place..place + length]);
                 u32::from_le_bytes(bytes)
             };
-            assert_eq!(answer.data, stands(80, 4), "{what}");
-            assert_eq!(u32::from(answer.spare), stands(84, 2), "{what}");
-            assert_eq!(answer.pages, stands(92, 4), "{what}");
-            assert_eq!(answer.blocks, stands(96, 4), "{what}");
+            let four = [stands(80, 4), stands(84, 2), stands(92, 4), stands(96, 4)];
+            assert_eq!(sizes(answer), four, "{what}");
         }
     }
 }
@@ -175,14 +164,7 @@ fn made_pages_are_read() {
         let what = format!("seed {seed}, case {number}, {part:?}");
         assert_eq!((made, answer.refusal), (0, 0), "{what}");
         assert_eq!(usize::from(answer.copy), copy, "{what}");
-        let read = sized(
-            answer.data,
-            answer.spare.into(),
-            answer.pages,
-            answer.blocks,
-        );
-        let identity = read.identity;
-        assert_eq!(read, Part { identity, ..part }, "{what}");
+        assert_eq!(sizes(answer), sizes_of(&part), "{what}");
     }
 }
 
@@ -479,8 +461,7 @@ mod wrong {
         fn page(&self, part: &Part) -> Vec<u8> {
             let mut page = page_of(Part::BENCH);
             page[80..100].fill(0);
-            let sizes = [part.data, part.spare, part.pages, part.blocks];
-            for (size, (place, length)) in sizes.into_iter().zip(self.numbers) {
+            for (size, (place, length)) in sizes_of(part).into_iter().zip(self.numbers) {
                 let field = &mut page[place..place + length];
                 field.copy_from_slice(&size.to_le_bytes()[..length]);
                 if self.high_first {

@@ -5,7 +5,8 @@ use std::fmt;
 use std::hint::black_box;
 
 use sleetanvil::paper::{page, Part};
-use sleetanvil::{raw, Geometry};
+use sleetanvil::raw::{self, RawSizes};
+use sleetanvil::Geometry;
 
 use super::compare::bytes_difference;
 use super::rng::Rng;
@@ -53,8 +54,7 @@ pub fn library(case: &Case) -> Outcome {
         Call::Read => {
             let answer = raw::page_read(&memory[lent.clone()]);
             (outcome.refusal, outcome.copy) = (answer.refusal, answer.copy);
-            let spare = answer.spare.into();
-            outcome.sizes = [answer.data, spare, answer.pages, answer.blocks];
+            outcome.sizes = sizes(answer);
         }
         Call::Check => outcome.check = raw::page_check(&memory[lent.clone()]),
     }
@@ -63,6 +63,12 @@ pub fn library(case: &Case) -> Outcome {
     assert!(!touched, "a byte beside the memory was touched: {case}");
     outcome.memory = memory[lent].to_vec();
     outcome
+}
+
+/// D, S, K and N of an answer.
+pub fn sizes(answer: RawSizes) -> [u32; 4] {
+    let spare = answer.spare.into();
+    [answer.data, spare, answer.pages, answer.blocks]
 }
 
 /// Bytes before and after the memory that nobody may touch.
