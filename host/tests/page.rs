@@ -569,7 +569,7 @@ mod wrong {
             let differs =
                 |case: Case| difference(&case, &|case| rules.take(case), &model).is_some();
             let finds = |case: fn(&mut Generator) -> Case| {
-                (0..CASES).any(|number| differs(case(&mut Generator::new(2, number))))
+                (0..400).any(|number| differs(case(&mut Generator::new(2, number))))
             };
             let form = rules.form.check(b"1") != Form::ONFI.check(b"1");
             let of_any = form || rules.zeros != 0 || rules.added != 0;
@@ -581,7 +581,7 @@ mod wrong {
 
     #[test]
     fn the_rules_themselves_are_not() {
-        assert!(hunt(&|case| RIGHT.take(case), &model, 1, 2 * CASES).is_none());
+        assert!(hunt(&|case| RIGHT.take(case), &model, 1, CASES).is_none());
     }
 
     #[test]
