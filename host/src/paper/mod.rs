@@ -1,5 +1,5 @@
 //! An independent model of document 01, written from the paper and the project's decisions alone; and
-//! of document 02 what is no part of the device, the keeper of the bus.
+//! of document 02 what is no part of the device: the parameter page and the keeper of the bus.
 //!
 //! It shares no code and no type with the proved library. The tests compare the two on random
 //! contents of all their inputs, sound and not, and the benchmark takes this model as what a good
@@ -24,6 +24,7 @@
 //! | `run` | a log run on a device: the checks, then record by record |
 //! | `orderly` | whether demand 3 speaks of a log |
 //! | `calls` | what a simulator calls beside a log: transfers, long work, the next byte, the units left |
+//! | `page` | the parameter page: its check, its maker, the reader of its three copies |
 //! | `keeper` | four cores at one chip select: queues of waiting transfers, and whose turn it is |
 
 mod calls;
@@ -31,6 +32,7 @@ mod instructions;
 mod keeper;
 mod log;
 mod orderly;
+pub mod page;
 mod part;
 mod refusal;
 mod registers;

@@ -1,6 +1,6 @@
-//! What the tests share: the library on a case and the comparison of outcomes, calls on a keeper, a
-//! random number generator, a generator of cases, the hunt with its report, and how a program is
-//! started.
+//! What the tests share: the library on a case and the comparison of outcomes, calls on a keeper and
+//! of the parameter page, a random number generator, a generator of cases, the hunt with its report,
+//! and how a program is started.
 
 // Each test program uses a part of it.
 #![allow(dead_code)]
@@ -9,6 +9,7 @@ pub mod compare;
 pub mod generate;
 pub mod hunt;
 pub mod keeping;
+pub mod paging;
 pub mod rng;
 
 use std::env;

@@ -97,7 +97,7 @@ fn events(geometry: &Geometry, buffers: &mut Buffers, naive: &mut Naive) -> Time
 }
 
 /// The times of library, model and naive model.
-fn with_naive([library, model, naive]: [f64; 3]) -> Times {
+pub fn with_naive([library, model, naive]: [f64; 3]) -> Times {
     Times {
         library,
         model,

@@ -6,10 +6,12 @@
 //! best round counts: what else the machine does can only make a round longer. The last columns are
 //! speeds: above 1 the library is the faster. Work of n units is given less what the same call costs
 //! with one unit, so that the units are compared and not the call; what a call costs has rows of its
-//! own, with the paper's model behind the same structs by value. Run it with
+//! own, with the paper's model behind the same structs by value; and so has the parameter page's check,
+//! bit by bit in the paper's model and by a table in the place of the naive one. Run it with
 //! `cargo run --release --bin bench`.
 
 mod calls;
+mod checks;
 mod naive;
 
 use std::hint::black_box;
@@ -37,6 +39,7 @@ fn main() {
     let geometry = Geometry::fm25s005bi3();
     compare(&geometry, tasks(&geometry));
     calls::compare(&geometry, &mut buffers(&geometry));
+    checks::compare(&mut buffers(&geometry));
     println!("| on the bench part | | | | | | | |");
     compare(&Geometry::bench(), vec![nothing()]);
 }
