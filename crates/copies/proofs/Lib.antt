@@ -1,1 +1,6 @@
 pub mod Values
+pub mod Holding
+pub mod Reader
+pub mod Back
+pub mod Damage
+pub mod OneAnswer

@@ -65,7 +65,7 @@ all-read {s} {n} {i} r h = let e : i ≡ 0 = omega arith in rw e at (r .so-far)
 
 -- ---- the two bytes of S
 
-stretch-bytes : (p : List ℕ) → Bytes p → (place size : ℕ) → Bytes (stretch place size p)
+pub stretch-bytes : (p : List ℕ) → Bytes p → (place size : ℕ) → Bytes (stretch place size p)
 stretch-bytes p bs place size i = go (ltb i size) refl
   where
     go : (t : Bool) → ltb i size ≡ t → getD (take size (drop place p)) i 0 < 256
