@@ -94,7 +94,7 @@ fn makes(given: Given, place: usize, memory: &mut [u8]) {
 // `r`: the copies are read, told by the copy and its four numbers, or by the refusal.
 fn reads(given: Given, memory: &[u8]) {
     let e = least(given.lent, memory.len());
-    match copies::read(&memory[..e]) {
+    match copies::read(&memory[0..e]) {
         Found::At(copy, s) => {
             number(b" r0 ", copy);
             hex(b" ", s.main, 8);
