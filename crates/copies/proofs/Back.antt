@@ -1,13 +1,13 @@
 -- What was made reads back.
-use mathlib.Core.List.{List, [], _∷_, _++_}
+use mathlib.Core.List.{List, _++_}
 use mathlib.Core.Path.{_≡_, refl, sym, ap, subst, _∙_}
-use Prim.Native.Nat.{ℕ, zero, suc, _+_, _*_, _/_, _%_, _^_, _≤_, _<_}
+use Prim.Native.Nat.{ℕ, zero, suc, _+_, _*_, _/_, _^_, _≤_, _<_}
 use native.Mathlib.Nat.{mul-le-mul-right}
 use native.Mathlib.Omega.{arith}
 use lib.ListN.{length, take, drop, take-append-drop, length-append, length-drop}
 use lib.Seq.{length-take-le, take-at, drop-at, take-append-le, drop-append-le}
 use borrow.Author.Tests.{le-ltb}
-use Rattle.part.specs.Part.{Sound, page, rows, soundPart}
+use Rattle.part.specs.Part.{Sound, soundPart}
 use Rattle.part.specs.declared.Geometry.{Geometry}
 use Rattle.part.proofs.Choice.{T-true}
 use Rattle.part.proofs.Laws.{sound-exactly}

@@ -2,16 +2,15 @@
 use mathlib.Core.Bool.{Bool, true, false, _&&_}
 use mathlib.Core.List.{List, [], _∷_}
 use mathlib.Core.Path.{_≡_, refl, sym, ap, _∙_}
-use Prim.Native.Nat.{ℕ, _≤_, _<_}
+use Prim.Native.Nat.{ℕ, _<_}
 use native.Mathlib.Omega.{arith}
 use lib.Dec.{T, eqb, ltb, eqb→eq}
 use lib.ListN.{length, take, getD, List·getD-eq-default}
 use lib.Seq.{getD-take}
 use borrow.Author.Tests.{ltb-true, ltb-false, eq-eqb}
 use Rattle.part.proofs.Choice.{true-T, and-l, and-r, and-in}
-use Rattle.crc.specs.Crc.{checkOf}
-use Rattle.sheet.specs.Numbers.{numberIn, stretch}
-use Rattle.copies.specs.Copies.{Holds, signed, checked, holds}
+use Rattle.sheet.specs.Numbers.{stretch}
+use Rattle.copies.specs.Copies.{signed, checked}
 use Rattle.copies.specs.Promises.{HoldsExactly}
 
 -- a place where a byte is not 0 is within the list

@@ -1,5 +1,4 @@
 -- What is promised of the reader of the three copies.
-use mathlib.Core.Bool.{Bool}
 use mathlib.Core.List.{List, _++_}
 use mathlib.Core.Logic.{_↔_}
 use mathlib.Core.Path.{_≡_}
@@ -9,7 +8,7 @@ use lib.ListN.{length, take, drop, getD, set}
 use Rattle.part.specs.Part.{Sound}
 use Rattle.part.specs.declared.Geometry.{Geometry}
 use Rattle.crc.specs.Promises.{Bytes}
-use Rattle.sheet.specs.Page.{pageOf, makeOf}
+use Rattle.sheet.specs.Page.{makeOf}
 use Rattle.copies.specs.Copies.{copyAt, Holds, holds, sizesIn, sizesOf, readOf, told}
 use Rattle.copies.specs.declared.Found.the-variants.{At}
 use Rattle.copies.specs.declared.Sizes.{Sizes}

@@ -1,15 +1,15 @@
 -- One changed byte changes the check: each step can be undone.
 use mathlib.Core.Bool.{Bool, true, false, cond}
 use mathlib.Core.List.{List, [], _∷_}
-use mathlib.Core.Path.{_≡_, refl, sym, ap, _∙_}
+use mathlib.Core.Path.{_≡_, refl, sym, _∙_}
 use Prim.Native.Nat.{ℕ, zero, suc, _+_, _*_, _/_, _%_, _<_}
 use native.Mathlib.Nat.{le-of-suc-le-suc, not-suc-le-zero}
 use native.Mathlib.Omega.{arith}
-use lib.Bits.{bitXor, differ, xor-lt, xor-comm}
+use lib.Bits.{bitXor, xor-lt, xor-comm}
 use lib.Dec.{eqb}
 use lib.ListN.{length, getD, set}
 use borrow.Author.Tests.{eqb-true, eqb-false}
-use Rattle.crc.specs.Crc.{polynomial, start, bitFed, byteFed, allFed, checkOf}
+use Rattle.crc.specs.Crc.{polynomial, start, bitFed, byteFed, allFed}
 use Rattle.crc.specs.Promises.{KnownAnswer, Bytes, SixteenBits, Noticed}
 use Rattle.crc.proofs.Xor.{xor-odd, xor-cancel}
 use Rattle.crc.proofs.Linear.{bit-lt, byte-lt, data-added}

@@ -1,6 +1,6 @@
 -- Laws of XOR that the library lacks: it groups either way, takes itself back, and moves up with its operands.
 use mathlib.Core.Path.{_≡_, refl, sym, ap, ap₂, _∙_}
-use Prim.Native.Nat.{ℕ, zero, suc, _+_, _*_, _/_, _%_, _^_, _<_}
+use Prim.Native.Nat.{ℕ, zero, suc, _+_, _*_, _/_, _%_, _<_}
 use native.Mathlib.Nat.{add-zero}
 use native.Mathlib.Omega.{arith}
 use lib.Arith.{bin-ind}
@@ -56,18 +56,14 @@ xor-assoc a = bin-ind (λ (a : ℕ). (b c : ℕ) → bitXor (bitXor a b) c ≡ b
         ∙ ap (λ (x : ℕ). differ (n % 2) x) (sym (xor-odd b c)))
         ∙ sym (xor-step n (bitXor b c))
 
-module _ (a b : ℕ) where
-  -- what is added last may be added first
-  pub xor-swap : (c : ℕ) → bitXor (bitXor a b) c ≡ bitXor (bitXor a c) b
-  xor-swap c = xor-assoc a b c ∙ ap (λ (x : ℕ). bitXor a x) (xor-comm b c) ∙ sym (xor-assoc a c b)
+-- what is added last may be added first
+pub xor-swap : (a b c : ℕ) → bitXor (bitXor a b) c ≡ bitXor (bitXor a c) b
+xor-swap a b c = xor-assoc a b c ∙ ap (λ (x : ℕ). bitXor a x) (xor-comm b c) ∙ sym (xor-assoc a c b)
 
-  -- adding twice is adding not at all
-  pub xor-twice : bitXor a (bitXor a b) ≡ b
-  xor-twice = sym (xor-assoc a a b) ∙ ap (λ (x : ℕ). bitXor x b) (xor-self a) ∙ xor-zero-l b
+-- adding twice is adding not at all
+xor-twice : (a b : ℕ) → bitXor a (bitXor a b) ≡ b
+xor-twice a b = sym (xor-assoc a a b) ∙ ap (λ (x : ℕ). bitXor x b) (xor-self a) ∙ xor-zero-l b
 
-  -- so an operand can be taken away
-  pub xor-cancel : (c : ℕ) → bitXor a b ≡ bitXor a c → b ≡ c
-  xor-cancel c e = sym xor-twice ∙ ap (λ (x : ℕ). bitXor a x) e ∙ twice c
-    where
-      twice : (x : ℕ) → bitXor a (bitXor a x) ≡ x
-      twice x = sym (xor-assoc a a x) ∙ ap (λ (y : ℕ). bitXor y x) (xor-self a) ∙ xor-zero-l x
+-- so an operand can be taken away
+pub xor-cancel : (a b c : ℕ) → bitXor a b ≡ bitXor a c → b ≡ c
+xor-cancel a b c e = sym (xor-twice a b) ∙ ap (λ (x : ℕ). bitXor a x) e ∙ xor-twice a c

@@ -1,5 +1,4 @@
 -- The bytes of a number, read from the last on.
-use mathlib.Core.Path.{refl, sym, _∙_}
 use Prim.Native.Nat.{_-_}
 use native.Mathlib.Omega.{arith}
 use lib.ListN.{length}

@@ -1,11 +1,6 @@
 -- The four numbers of a copy. Two bytes are below 65,536.
-use mathlib.Core.Path.{_≡_}
-use Prim.Native.Nat.{ℕ, _+_, _%_, _<_}
-use native.Mathlib.Nat.{mod-eq-of-lt}
 use native.Mathlib.Omega.{arith}
-use lib.ListN.{take, drop, getD, length-take}
 use denote.Ref.{now}
-use Rattle.sheet.specs.Numbers.{numberIn, stretch}
 use Rattle.copies.proofs.Values.{short-whole}
 use borrow.Author.Needs.{needs}
 use Rattle.copies.proofs.sizes_in.Statement.{statement}

@@ -4,7 +4,7 @@ use Prim.Native.Nat.{_-_, _≤_}
 use native.Mathlib.Omega.{arith}
 use lib.ListN.{length, drop}
 use denote.Ref.{now}
-use Rattle.crc.specs.Crc.{start, allFed, checkOf}
+use Rattle.crc.specs.Crc.{allFed, checkOf}
 use Rattle.crc.proofs.Linear.{two-on, last-on, all-end}
 use Rattle.crc.proofs.along.Statement.{statement}
 use Rattle.crc.proofs.along.Tie as tie

@@ -1,5 +1,4 @@
 -- Two bytes are added to all 16 bits, and they go out.
-use mathlib.Core.Path.{_∙_}
 use native.Mathlib.Omega.{arith}
 use Rattle.crc.proofs.Linear.{both-added}
 use borrow.Author.Needs.{needs}

@@ -1,5 +1,4 @@
 -- An answer in numbers, case by case.
-use Rattle.copies.specs.Copies.{told}
 use borrow.Author.Needs.{needs}
 use Rattle.page_face.proofs.sizes_of.Statement.{statement}
 use Rattle.page_face.proofs.sizes_of.Tie as tie

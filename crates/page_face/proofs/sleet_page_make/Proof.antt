@@ -1,7 +1,6 @@
 -- The maker's answer by its number, and the memory.
 use mathlib.Core.Path.{ap, _∙_}
-use Rattle.sheet.specs.Page.{MadeEnd, makeOf}
-use Rattle.page_face.specs.Face.{CMade, numbered}
+use Rattle.page_face.specs.Face.{numbered}
 use borrow.Author.Needs.{needs}
 use Rattle.page_face.proofs.sleet_page_make.Statement.{statement}
 use Rattle.page_face.proofs.sleet_page_make.Tie as tie

@@ -1,8 +1,5 @@
 -- The table's bytes, and their check behind them.
-use mathlib.Core.Path.{_≡_}
-use Prim.Native.Nat.{ℕ}
-use native.Mathlib.Omega.{arith}
-use lib.ListN.{length, drop, length-drop}
+use lib.ListN.{drop, length-drop}
 use denote.Ref.{now}
 use Rattle.sheet.specs.Page.{pageOf}
 use Rattle.sheet.proofs.Pages.{page-laid}

@@ -1,5 +1,4 @@
 -- The maker: the part is asked first, then the room, and then the page is laid.
-use native.Mathlib.Omega.{arith}
 use borrow.Author.Tests.{not-true, not-false, lt-ltb, le-ltb}
 use Rattle.sheet.specs.Page.{makeOf}
 use borrow.Author.Needs.{needs}
