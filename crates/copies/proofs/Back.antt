@@ -46,7 +46,7 @@ module _ (g : Geometry) where
   unfolding pageOf laid sheet bytesIn lowFirst characters
   numbers-placed = (refl, refl, refl, refl)
 
-  own-numbers : Sound g → sizesIn (pageOf g) ≡ sizesOf g
+  pub own-numbers : Sound g → sizesIn (pageOf g) ≡ sizesOf g
   own-numbers s =
       let n = numbers-placed in
       let few : 1 * g .blocks ≤ g .pages * g .blocks = mul-le-mul-right (g .blocks) (s .some-pages) in

@@ -3,4 +3,5 @@ pub mod Holding
 pub mod Reader
 pub mod Back
 pub mod Damage
+pub mod Spare
 pub mod OneAnswer

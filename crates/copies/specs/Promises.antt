@@ -8,7 +8,7 @@ use lib.ListN.{length, take, drop, getD, set}
 use Rattle.part.specs.Part.{Sound}
 use Rattle.part.specs.declared.Geometry.{Geometry}
 use Rattle.crc.specs.Promises.{Bytes}
-use Rattle.sheet.specs.Page.{makeOf}
+use Rattle.sheet.specs.Page.{pageOf, makeOf}
 use Rattle.copies.specs.Copies.{copyAt, Holds, holds, sizesIn, sizesOf, readOf, told}
 use Rattle.copies.specs.declared.Found.the-variants.{At}
 use Rattle.copies.specs.declared.Sizes.{Sizes}
@@ -55,3 +55,9 @@ MadeReads =
 abbrev pub DamageSeen : Type 0
 DamageSeen =
     (p : List ℕ) → Bytes p → length p ≡ 256 → Holds p → (i b : ℕ) → i < 256 → b < 256 → ¬ (b ≡ getD p i 0) → ¬ Holds (set p i b)
+
+-- three copies of a part's page outlive it: whatever one byte of the memory becomes, the part's own four numbers are read
+abbrev pub OneByteLost : Type 0
+OneByteLost =
+    (g : Geometry) → Sound g → (l : List ℕ) → Bytes l → 768 ≤ length l → ((k : ℕ) → k < 3 → copyAt k l ≡ pageOf g) →
+    (i b : ℕ) → b < 256 → (told (readOf (set l i b)) .refusal ≡ 0) × (told (readOf (set l i b)) .sizes ≡ sizesOf g)

@@ -16,7 +16,7 @@ polynomial = 0x8005
 abbrev pub start : ℕ
 start = 0x4F4E
 
--- one bit b: the 16 bits of the check move up by one; if the one that goes out at the top is not b, the polynomial is added
+-- one bit b: the 16 bits of the check move up by one; if the one that goes out at the top is not b, the polynomial is added without carry
 unfoldable pub bitFed : ℕ → ℕ → ℕ
 bitFed c b = if eqb (c / 0x8000) b then c % 0x8000 * 2 else bitXor (c % 0x8000 * 2) polynomial
 

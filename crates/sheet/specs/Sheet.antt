@@ -1,4 +1,5 @@
--- Document 02, item 1: bytes 0 to 253 of the parameter page, line by line as 003's Table 11 has them, but with the part's own D, S, K and N.
+-- Document 02, item 1: bytes 0 to 253 of the parameter page, line by line as 003's Table 11 has them, but with the part's own D, S, K and
+-- N.
 use mathlib.Core.List.{List, [], _∷_, _++_}
 use Prim.Native.Nat.{ℕ, _-_}
 use Prim.Native.String.{String}

@@ -49,7 +49,7 @@ fn copy(from: &[u8], to: &mut [u8])
     }
 }
 
-// 003's table, a line here for each line there, with 0 for the part's own numbers.
+// 003's table, a line here for each line there (and three for the last), with 0 for the part's own numbers.
 fn lay_table(sheet: &mut [u8])
     requires { ⌜ length (now sheet) ≡ 254 ⌝ }
     ensures { λ r. ⌜ now (sheet .exit) ≡ unnumbered ⌝ }
