@@ -1,21 +1,13 @@
-// Whether a log is orderly: the suppositions of demand 3, asked of each record as it comes, of the start and of the end.
-ghost use mathlib.Core.Bool.{_&&_, _||_};
+// A log run and judged: the suppositions of demand 3, asked of each record as it comes, of the start and of the end.
 ghost use mathlib.Core.Path.{_≡_};
 ghost use Rattle.part.specs.Part.{Sound};
 ghost use Rattle.device.specs.Machine.{machine};
 ghost use Rattle.kept.specs.Kept.{SoundMachine};
-ghost use Rattle.whole.specs.Orderly.{idle, first, unknown, resetting, allowed, firstRead, upRegisters, upTransfer, powerUp?, starts};
 ghost use Rattle.whole.specs.Demand.{given};
 ghost use Rattle.orderly.specs.Judge.{judged, judgementOf, closed, welcome};
-use array::Job;
-use array::Work;
 use buslog::Next;
-use buslog::Record;
 use device::State;
 use part::Geometry;
-use registers::Registers;
-use transfer::Bus;
-use transfer::Transfer;
 use walk::Answer;
 use walk::Walk;
 use walk::Went;
@@ -26,136 +18,15 @@ pub struct Judged {
     pub orderly: bool,
 }
 
-// Two tests, both asked.
-fn both(a: bool, b: bool) -> bool
-    ensures { λ r. ⌜ r ≡ a && b ⌝ }
-{
-    if a { b } else { false }
-}
-
-// Two tests, one of which is enough.
-fn either(a: bool, b: bool) -> bool
-    ensures { λ r. ⌜ r ≡ a || b ⌝ }
-{
-    if a { true } else { b }
-}
-
-// Whether the array is idle.
-pub fn idle(s: State) -> bool
-    ensures { λ r. ⌜ r ≡ idle s ⌝ }
-{
-    let w = s.work;
-    match w {
-        Work::Idle => true,
-        Work::Busy(_, _) => false,
-    }
-}
-
-// Whether a byte heard now is an instruction's first.
-fn first(x: Bus) -> bool
-    ensures { λ r. ⌜ r ≡ first x ⌝ }
-{
-    let t = x.transfer;
-    both(x.heard(), t.count == 0)
-}
-
-// Whether no instruction has this byte.
-fn unknown(b: u8) -> bool
-    ensures { λ r. ⌜ r ≡ unknown b ⌝ }
-{
-    let t = Transfer {
-        instruction: transfer::instruction_of(b),
-        ..Transfer::fresh(false)
-    };
-    t.is(transfer::NO_BYTE)
-}
-
-// Whether chip select, rising now, lets a reset take effect.
-fn resetting(t: Transfer) -> bool
-    ensures { λ r. ⌜ r ≡ resetting t ⌝ }
-{
-    both(both(t.selected, t.is(0xFF)), t.full())
-}
-
-// Whether demand 3 lets a record come in this state.
-pub fn allowed(s: State, e: Record) -> bool
-    ensures { λ r. ⌜ r ≡ allowed s e ⌝ }
-{
-    let x = s.bus;
-    let t = x.transfer;
-    let rests = idle(s);
-    match e {
-        Record::Shift(b) => either(
-            either(either(rests, !first(x)), transfer::let_in(b)),
-            unknown(b),
-        ),
-        Record::Deselect => either(rests, !resetting(t)),
-        Record::Power => rests,
-        Record::Select => true,
-        Record::Units(_) => true,
-        Record::Level(_) => true,
-    }
-}
-
-// Whether the read of row 0 has just begun.
-fn first_read(w: Work) -> bool
-    ensures { λ r. ⌜ r ≡ firstRead w ⌝ }
-{
-    match w {
-        Work::Idle => false,
-        Work::Busy(job, done) => match job {
-            Job::Read(row) => both(row.0 == 0, done == 0),
-            Job::Program(_) => false,
-            Job::Erase(_) => false,
-        },
-    }
-}
-
-// Whether the registers have their power-up values.
-fn up_registers(r: Registers) -> bool
-    ensures { λ b. ⌜ b ≡ upRegisters r ⌝ }
-{
-    let two = both(r.a0 == 0x38, r.b0 == 0x10);
-    both(both(two, r.c0 == 0x01), r.d0 == 0x40)
-}
-
-// Whether the transfer is as power-up leaves it.
-fn up_transfer(t: Transfer) -> bool
-    ensures { λ r. ⌜ r ≡ upTransfer t ⌝ }
-{
-    let c = t.column;
-    let none = both(both(!t.selected, t.count == 0), t.is(transfer::NO_BYTE));
-    let bytes = both(both(both(none, t.first == 0), t.second == 0), t.third == 0);
-    both(bytes, c.0 == 0)
-}
-
-// Whether the state is the power-up state, WP# at either level.
-fn at_power_up(s: State) -> bool
-    ensures { λ r. ⌜ r ≡ powerUp? s ⌝ }
-{
-    let r = s.regs;
-    let x = s.bus;
-    let t = x.transfer;
-    let w = s.work;
-    both(both(up_registers(r), up_transfer(t)), first_read(w))
-}
-
-// Whether a log may start in this state: at power-up, or idle.
-pub fn starts(s: State) -> bool
-    ensures { λ r. ⌜ r ≡ starts s ⌝ }
-{
-    either(at_power_up(s), idle(s))
-}
-
 // An answer judged: the end must be idle as well.
 fn closed(answer: Answer, ok: bool) -> Judged
     ensures { λ r. ⌜ r ≡ closed answer ok ⌝ }
 {
     let s = answer.state;
-    let rests = idle(s);
+    let rests = suppositions::idle(s);
     Judged {
         answer: answer,
-        orderly: both(ok, rests),
+        orderly: suppositions::both(ok, rests),
     }
 }
 
@@ -164,7 +35,7 @@ fn welcome(s: State, next: Next) -> bool
     ensures { λ r. ⌜ r ≡ welcome s next ⌝ }
 {
     match next {
-        Next::Found(e, _) => allowed(s, e),
+        Next::Found(e, _) => suppositions::allowed(s, e),
         Next::Stop(_) => true,
     }
 }
@@ -185,10 +56,10 @@ fn go(
         ≡ judgementOf (given g state (now (log .entry)) (now (cells .entry)) (now (cache .entry)) (now (counts .entry)) (now (out .entry))) ⌝ }
 {
     let mut w = Walk::start(state);
-    let mut ok = starts(state);
+    let mut ok = suppositions::starts(state);
     loop {
         let s = w.state;
-        let so = both(ok, welcome(s, buslog::next_at(log, w.at)));
+        let so = suppositions::both(ok, welcome(s, buslog::next_at(log, w.at)));
         match walk::onward(g, w, log, cells, cache, counts, out) {
             Went::On(next) => {
                 w = next;
@@ -217,7 +88,7 @@ pub fn judge(
 {
     let k = refusals::check(g, state, cells.len(), cache.len(), counts.len());
     if !refusals::passes(k) {
-        return closed(Walk::start(state).so_far(k), starts(state));
+        return closed(Walk::start(state).so_far(k), suppositions::starts(state));
     }
     go(g, state, log, cells, cache, counts, out)
 }

@@ -1,7 +1,7 @@
 -- The power-up state: registers, transfer and work, one after another.
 use borrow.Author.Needs.{needs}
-use Rattle.orderly.proofs.at_power_up.Statement.{statement}
-use Rattle.orderly.proofs.at_power_up.Tie as tie
+use Rattle.suppositions.proofs.at_power_up.Statement.{statement}
+use Rattle.suppositions.proofs.at_power_up.Tie as tie
 
 up-registers-requires : tie.Need-up-registers-requires
 up-registers-requires c κs = search needs

@@ -1,7 +1,7 @@
 -- The read of row 0 just begun: the operation, and then its row and units.
 use borrow.Author.Needs.{needs}
-use Rattle.orderly.proofs.first_read.Statement.{statement}
-use Rattle.orderly.proofs.first_read.Tie as tie
+use Rattle.suppositions.proofs.first_read.Statement.{statement}
+use Rattle.suppositions.proofs.first_read.Tie as tie
 
 enum-told : tie.Need-enum-told
 enum-told c = search needs

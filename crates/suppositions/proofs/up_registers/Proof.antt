@@ -1,7 +1,7 @@
 -- The registers at their power-up values: the four tests, one after another.
 use borrow.Author.Needs.{needs}
-use Rattle.orderly.proofs.up_registers.Statement.{statement}
-use Rattle.orderly.proofs.up_registers.Tie as tie
+use Rattle.suppositions.proofs.up_registers.Statement.{statement}
+use Rattle.suppositions.proofs.up_registers.Tie as tie
 
 both-requires : tie.Need-both-requires
 both-requires c κs = search needs

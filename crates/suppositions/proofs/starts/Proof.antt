@@ -1,7 +1,7 @@
 -- At power-up, or idle.
 use borrow.Author.Needs.{needs}
-use Rattle.orderly.proofs.starts.Statement.{statement}
-use Rattle.orderly.proofs.starts.Tie as tie
+use Rattle.suppositions.proofs.starts.Statement.{statement}
+use Rattle.suppositions.proofs.starts.Tie as tie
 
 at-power-up-requires : tie.Need-at-power-up-requires
 at-power-up-requires c κs = search needs

@@ -1,7 +1,7 @@
 -- An instruction's first byte: heard, and none before it.
 use borrow.Author.Needs.{needs}
-use Rattle.orderly.proofs.first.Statement.{statement}
-use Rattle.orderly.proofs.first.Tie as tie
+use Rattle.suppositions.proofs.first.Statement.{statement}
+use Rattle.suppositions.proofs.first.Tie as tie
 
 heard-requires : tie.Need-heard-requires
 heard-requires c κs = search needs

@@ -1,7 +1,7 @@
 -- The byte of no instruction: what it would begin is ignored.
 use borrow.Author.Needs.{needs}
-use Rattle.orderly.proofs.unknown.Statement.{statement}
-use Rattle.orderly.proofs.unknown.Tie as tie
+use Rattle.suppositions.proofs.unknown.Statement.{statement}
+use Rattle.suppositions.proofs.unknown.Tie as tie
 
 instruction-of-requires : tie.Need-instruction-of-requires
 instruction-of-requires c κs = search needs

@@ -1,7 +1,7 @@
 -- A reset takes effect: the three tests, one after another.
 use borrow.Author.Needs.{needs}
-use Rattle.orderly.proofs.resetting.Statement.{statement}
-use Rattle.orderly.proofs.resetting.Tie as tie
+use Rattle.suppositions.proofs.resetting.Statement.{statement}
+use Rattle.suppositions.proofs.resetting.Tie as tie
 
 is-requires : tie.Need-is-requires
 is-requires c κs = search needs

@@ -1,7 +1,7 @@
 -- The transfer as power-up leaves it: the seven tests, one after another.
 use borrow.Author.Needs.{needs}
-use Rattle.orderly.proofs.up_transfer.Statement.{statement}
-use Rattle.orderly.proofs.up_transfer.Tie as tie
+use Rattle.suppositions.proofs.up_transfer.Statement.{statement}
+use Rattle.suppositions.proofs.up_transfer.Tie as tie
 
 both-requires : tie.Need-both-requires
 both-requires c κs = search needs

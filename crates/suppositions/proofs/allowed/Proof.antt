@@ -1,7 +1,7 @@
 -- Each record in its turn: the tests that the definition asks of it.
 use borrow.Author.Needs.{needs}
-use Rattle.orderly.proofs.allowed.Statement.{statement}
-use Rattle.orderly.proofs.allowed.Tie as tie
+use Rattle.suppositions.proofs.allowed.Statement.{statement}
+use Rattle.suppositions.proofs.allowed.Tie as tie
 
 idle-requires : tie.Need-idle-requires
 idle-requires c κs = search needs
