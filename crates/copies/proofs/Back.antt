@@ -9,16 +9,16 @@ use lib.Seq.{length-take-le, take-at, drop-at, take-append-le, drop-append-le}
 use borrow.Author.Tests.{le-ltb}
 use Rattle.part.specs.Part.{Sound, soundPart}
 use Rattle.part.specs.declared.Geometry.{Geometry}
-use Rattle.part.proofs.Choice.{T-true}
 use Rattle.part.proofs.Laws.{sound-exactly}
-use Rattle.crc.specs.Crc.{checkOf}
+use Rattle.crc.specs.Crc.{crcOf}
 use Rattle.crc.proofs.Noticing.{sixteen-bits}
 use Rattle.texts.specs.Text.{bytes as characters}
 use Rattle.sheet.specs.Numbers.{lowFirst, numberIn, stretch}
 use Rattle.sheet.specs.Sheet.{bytesIn, sheet, laid}
 use Rattle.sheet.specs.Page.{pageOf, makeOf}
+use Rattle.sheet.proofs.Exact.{so-true}
 use Rattle.sheet.proofs.Pages.{page-length}
-use Rattle.sheet.proofs.Places.{page-whole}
+use Rattle.sheet.proofs.Places.{pages-right}
 use Rattle.copies.specs.Copies.{copyAt, Holds, sizesIn, sizesOf, readOf}
 use Rattle.copies.specs.Promises.{MadeReads}
 use Rattle.copies.specs.declared.Found.the-variants.{At}
@@ -38,8 +38,8 @@ module _ (g : Geometry) where
   pub page-holds : Holds (pageOf g)
   unfolding sheet bytesIn
   page-holds = record {
-    signature = page-whole g .lines .0;
-    check = ap numberIn (page-whole g .check) ∙ number-back 2 (checkOf (stretch 0 254 (pageOf g))) (sixteen-bits (stretch 0 254 (pageOf g)));
+    signature = pages-right g .lines .0;
+    check = ap numberIn (pages-right g .check) ∙ number-back 2 (crcOf (stretch 0 254 (pageOf g))) (sixteen-bits (stretch 0 254 (pageOf g)));
   }
 
   numbers-placed : (stretch 80 4 (pageOf g) ≡ lowFirst 4 (g .main)) × (stretch 84 2 (pageOf g) ≡ lowFirst 2 (g .spare)) × (stretch 92 4 (pageOf g) ≡ lowFirst 4 (g .pages)) × (stretch 96 4 (pageOf g) ≡ lowFirst 4 (g .blocks))
@@ -83,7 +83,7 @@ module _ (l p rest : List ℕ) (k : ℕ) (long : 256 * k ≤ length l) where
 
 made-is : (g : Geometry) → Sound g → (l : List ℕ) → 256 ≤ length l → makeOf g l .memory ≡ pageOf g ++ drop 256 l
 unfolding makeOf
-made-is g s l h = rw (T-true (soundPart g) (sound-exactly g .1 s), le-ltb (length l) 256 h)
+made-is g s l h = rw (so-true (soundPart g) (sound-exactly g) s, le-ltb (length l) 256 h)
 
 pub made-reads : MadeReads
 made-reads g s l long k kk none =

@@ -8,7 +8,7 @@ use lib.Dec.{ltb}
 use lib.ListN.{length, take, drop, getD, set, length-drop}
 use lib.Seq.{take-set-lt, take-set-le, drop-set-lt, drop-set-add, getD-take, getD-drop, length-take-le}
 use borrow.Author.Tests.{ltb-true, ltb-false}
-use Rattle.crc.specs.Crc.{checkOf}
+use Rattle.crc.specs.Crc.{crcOf}
 use Rattle.crc.specs.Promises.{Bytes}
 use Rattle.crc.proofs.Noticing.{noticed}
 use Rattle.sheet.specs.Numbers.{numberIn, stretch}
@@ -31,8 +31,8 @@ module _ (p : List ℕ) (bs : Bytes p) (long : length p ≡ 256) (held : Holds p
   in-table h x =
       let s = stretch 0 254 p in
       let stored : numberIn (stretch 254 2 (set p i b)) ≡ numberIn (stretch 254 2 p) = ap (λ (l : List ℕ). numberIn (take 2 l)) (drop-set-lt 254 p i b h) in
-      let same : checkOf (set (take 254 p) i b) ≡ checkOf (take 254 p) =
-      ap checkOf (sym (take-set-lt 254 p i b h)) ∙ sym (x .check) ∙ stored ∙ held .check in
+      let same : crcOf (set (take 254 p) i b) ≡ crcOf (take 254 p) =
+      ap crcOf (sym (take-set-lt 254 p i b h)) ∙ sym (x .check) ∙ stored ∙ held .check in
       noticed (take 254 p) (stretch-bytes p bs 0 254) i b (omega (arith, length-take-le 254 p (omega arith))) hb (λ e. other (e ∙ getD-take 254 p i 0 h)) same
 
   in-check : 254 ≤ i → i < 256 → ¬ Holds (set p i b)
@@ -41,7 +41,7 @@ module _ (p : List ℕ) (bs : Bytes p) (long : length p ≡ 256) (held : Holds p
       let at : 254 + (i - 254) ≡ i = omega arith in
       let moved : drop 254 (set p i b) ≡ set (drop 254 p) (i - 254) b = rw at at (drop-set-add 254 p (i - 254) b) in
       let same : numberIn (take 2 (set (drop 254 p) (i - 254) b)) ≡ numberIn (take 2 (drop 254 p)) =
-      ap (λ (l : List ℕ). numberIn (take 2 l)) (sym moved) ∙ x .check ∙ ap checkOf (take-set-le 254 p i b h) ∙ sym (held .check) in
+      ap (λ (l : List ℕ). numberIn (take 2 l)) (sym moved) ∙ x .check ∙ ap crcOf (take-set-le 254 p i b h) ∙ sym (held .check) in
       other (two-changed (drop 254 p) (i - 254) b (rw (length-drop, long)) (omega arith) same ∙ getD-drop 254 p (i - 254) 0 ∙ rw at refl)
 
 pub damage-seen : DamageSeen

@@ -4,11 +4,12 @@ use mathlib.Core.List.{List}
 use mathlib.Core.Path.{_≡_, refl, sym, subst, _∙_}
 use Prim.Native.Nat.{ℕ, zero, suc, _≤_, _<_}
 use native.Mathlib.Omega.{arith}
-use lib.Dec.{T, ltb}
+use lib.Dec.{ltb}
 use lib.ListN.{length}
 use borrow.Author.Tests.{ltb-true, ltb-false}
-use Rattle.part.proofs.Choice.{cond-keep, T-true, true-T}
-use Rattle.copies.specs.Copies.{copyAt, Holds, holds, sizesIn, readOf, told}
+use Rattle.part.proofs.Choice.{cond-keep}
+use Rattle.sheet.proofs.Exact.{true-so, false-not}
+use Rattle.copies.specs.Copies.{copyAt, Holds, holds, sizesIn, readOf, figures}
 use Rattle.copies.specs.Promises.{ReadLine, too-short, none-holds, one-holds, ReaderExactly, First, FirstHolds}
 use Rattle.copies.specs.declared.Found.{Found}
 use Rattle.copies.specs.declared.Found.the-variants.{At, NoCopy, TooShort}
@@ -22,10 +23,10 @@ data Reads (l : List ℕ) : Found → Type 0 where
   first : 768 ≤ length l → (k : ℕ) → k < 3 → Holds (copyAt k l) → ((j : ℕ) → j < k → ¬ Holds (copyAt j l)) → Reads l (At k (sizesIn (copyAt k l)))
 
 does : (p : List ℕ) → holds p ≡ true → Holds p
-does p e = holds-exactly p .0 (true-T (holds p) e)
+does p = true-so (holds p) (holds-exactly p)
 
 does-not : (p : List ℕ) → holds p ≡ false → ¬ Holds p
-does-not p e h = subst T (sym (T-true (holds p) (holds-exactly p .1 h)) ∙ e) tt
+does-not p = false-not (holds p) (holds-exactly p)
 
 ways : (l : List ℕ) → Reads l (readOf l)
 unfolding readOf
@@ -54,13 +55,13 @@ ways l =
     below-3 n₀ n₁ n₂ (suc (suc zero)) h = n₂
     below-3 n₀ n₁ n₂ (suc (suc (suc j))) h = absurd (omega arith)
 
-line : {l : List ℕ} {f : Found} → Reads l f → ReadLine l (told f .refusal)
+line : {l : List ℕ} {f : Found} → Reads l f → ReadLine l (figures f .refusal)
 line (short h) = too-short h
 line (none h u) = none-holds h u
 line (first h k kk p u) = one-holds h k kk p
 
 -- each line gets its number
-gives : {l : List ℕ} {f : Found} {n : ℕ} → Reads l f → ReadLine l n → told f .refusal ≡ n
+gives : {l : List ℕ} {f : Found} {n : ℕ} → Reads l f → ReadLine l n → figures f .refusal ≡ n
 gives (short h) (too-short g) = refl
 gives (short h) (none-holds g v) = absurd (omega arith)
 gives (short h) (one-holds g j jj q) = absurd (omega arith)

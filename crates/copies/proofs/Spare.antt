@@ -12,7 +12,7 @@ use Rattle.part.specs.Part.{Sound}
 use Rattle.part.specs.declared.Geometry.{Geometry}
 use Rattle.crc.specs.Promises.{Bytes}
 use Rattle.sheet.specs.Page.{pageOf}
-use Rattle.copies.specs.Copies.{copyAt, Holds, sizesIn, sizesOf, readOf, told}
+use Rattle.copies.specs.Copies.{copyAt, Holds, sizesIn, sizesOf, readOf, figures}
 use Rattle.copies.specs.Promises.{OneByteLost}
 use Rattle.copies.specs.declared.Found.the-variants.{At}
 use Rattle.copies.proofs.Back.{page-holds, own-numbers}
@@ -22,7 +22,7 @@ use Rattle.copies.proofs.Values.{stretch-bytes}
 
 -- the part's numbers are told
 Tells : Geometry → List ℕ → Type 0
-Tells g l = (told (readOf l) .refusal ≡ 0) × (told (readOf l) .sizes ≡ sizesOf g)
+Tells g l = (figures (readOf l) .refusal ≡ 0) × (figures (readOf l) .sizes ≡ sizesOf g)
 
 module _ (g : Geometry) (sound : Sound g) where
   -- where a copy is the part's page and none before it holds

@@ -7,7 +7,7 @@ use lib.Dec.{eqb, ltb}
 use lib.ListN.{length, getD}
 use Rattle.part.specs.Choice.{if_then_else_}
 use Rattle.part.specs.declared.Geometry.{Geometry}
-use Rattle.crc.specs.Crc.{checkOf}
+use Rattle.crc.specs.Crc.{crcOf}
 use Rattle.sheet.specs.Numbers.{numberIn, stretch}
 use Rattle.copies.specs.declared.Found.{Found}
 use Rattle.copies.specs.declared.Found.the-variants.{At, NoCopy, TooShort}
@@ -20,14 +20,14 @@ copyAt k l = stretch (256 * k) 256 l
 -- a copy holds if it has the signature, and the check of its bytes 0 to 253 at 254, low byte first
 pub record Holds (p : List ℕ) : Type 0 where
   pub signature : stretch 0 4 p ≡ 0x4F ∷ 0x4E ∷ 0x46 ∷ 0x49 ∷ []
-  pub check : numberIn (stretch 254 2 p) ≡ checkOf (stretch 0 254 p)
+  pub check : numberIn (stretch 254 2 p) ≡ crcOf (stretch 0 254 p)
 
 -- the two as tests
 unfoldable pub signed : List ℕ → Bool
 signed p = eqb (getD p 0 0) 0x4F && eqb (getD p 1 0) 0x4E && eqb (getD p 2 0) 0x46 && eqb (getD p 3 0) 0x49
 
 unfoldable pub checked : List ℕ → Bool
-checked p = eqb (numberIn (stretch 254 2 p)) (checkOf (stretch 0 254 p))
+checked p = eqb (numberIn (stretch 254 2 p)) (crcOf (stretch 0 254 p))
 
 abbrev pub holds : List ℕ → Bool
 holds p = signed p && checked p
@@ -49,8 +49,8 @@ readOf l =
     else if holds (copyAt 2 l) then At 2 (sizesIn (copyAt 2 l))
     else NoCopy
 
--- an answer in numbers: the refusal, and the copy and its four numbers, which are 0 where it is refused
-pub record Told : Type 0 where
+-- an answer in figures: the refusal, and the copy and its four numbers, which are 0 where it is refused
+pub record Figures : Type 0 where
   pub refusal : ℕ
   pub copy : ℕ
   pub sizes : Sizes
@@ -60,7 +60,7 @@ abbrev pub noSizes : Sizes
 noSizes = record { main = 0; spare = 0; pages = 0; blocks = 0 }
 
 -- the numbers of refusal: 10 where no copy holds, 11 for memory shorter than 768 bytes
-abbrev pub told : Found → Told
-told (At k s) = record { refusal = 0; copy = k; sizes = s }
-told NoCopy = record { refusal = 10; copy = 0; sizes = noSizes }
-told TooShort = record { refusal = 11; copy = 0; sizes = noSizes }
+abbrev pub figures : Found → Figures
+figures (At k s) = record { refusal = 0; copy = k; sizes = s }
+figures NoCopy = record { refusal = 10; copy = 0; sizes = noSizes }
+figures TooShort = record { refusal = 11; copy = 0; sizes = noSizes }

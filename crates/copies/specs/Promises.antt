@@ -9,7 +9,7 @@ use Rattle.part.specs.Part.{Sound}
 use Rattle.part.specs.declared.Geometry.{Geometry}
 use Rattle.crc.specs.Promises.{Bytes}
 use Rattle.sheet.specs.Page.{pageOf, makeOf}
-use Rattle.copies.specs.Copies.{copyAt, Holds, holds, sizesIn, sizesOf, readOf, told}
+use Rattle.copies.specs.Copies.{copyAt, Holds, holds, sizesIn, sizesOf, readOf, figures}
 use Rattle.copies.specs.declared.Found.the-variants.{At}
 use Rattle.copies.specs.declared.Sizes.{Sizes}
 
@@ -27,7 +27,7 @@ pub data ReadLine (l : List ℕ) : ℕ → Type 0 where
 
 -- it gives n if and only if line n holds
 abbrev pub ReaderExactly : Type 0
-ReaderExactly = (l : List ℕ) (n : ℕ) → told (readOf l) .refusal ≡ n ↔ ReadLine l n
+ReaderExactly = (l : List ℕ) (n : ℕ) → figures (readOf l) .refusal ≡ n ↔ ReadLine l n
 
 -- ---- what it answers
 
@@ -60,4 +60,4 @@ DamageSeen =
 abbrev pub OneByteLost : Type 0
 OneByteLost =
     (g : Geometry) → Sound g → (l : List ℕ) → Bytes l → 768 ≤ length l → ((k : ℕ) → k < 3 → copyAt k l ≡ pageOf g) →
-    (i b : ℕ) → b < 256 → (told (readOf (set l i b)) .refusal ≡ 0) × (told (readOf (set l i b)) .sizes ≡ sizesOf g)
+    (i b : ℕ) → b < 256 → (figures (readOf (set l i b)) .refusal ≡ 0) × (figures (readOf (set l i b)) .sizes ≡ sizesOf g)

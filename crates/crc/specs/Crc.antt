@@ -38,8 +38,8 @@ allFed c [] = c
 allFed c (n ∷ ns) = allFed (byteFed c n) ns
 
 -- the check of a stretch of bytes
-abbrev pub checkOf : List ℕ → ℕ
-checkOf s = allFed start s
+abbrev pub crcOf : List ℕ → ℕ
+crcOf s = allFed start s
 
 -- ---- how the code does eight bits at once: by a table
 

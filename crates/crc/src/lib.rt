@@ -1,6 +1,6 @@
 // The ONFI 1.0 check of a stretch of bytes, eight bits at a time by a table of 256 entries. Document 02, item 1.
 ghost use mathlib.Core.Path.{_≡_};
-ghost use Rattle.crc.specs.Crc.{RightTable, byteFed, checkOf};
+ghost use Rattle.crc.specs.Crc.{RightTable, byteFed, crcOf};
 
 mod table;
 
@@ -35,7 +35,7 @@ fn two_more(table: &[u16; 256], c: u16, b: u8, d: u8) -> u16
 // The check of a stretch of bytes, two by two.
 fn along(table: &[u16; 256], bytes: &[u8]) -> u16
     requires { ⌜ RightTable (now table) ⌝ }
-    ensures { λ r. ⌜ r ≡ checkOf (now (bytes .entry)) ⌝ }
+    ensures { λ r. ⌜ r ≡ crcOf (now (bytes .entry)) ⌝ }
 {
     let mut c: u16 = 0x4F4E;
     let mut i = 0;
@@ -51,7 +51,7 @@ fn along(table: &[u16; 256], bytes: &[u8]) -> u16
 
 // The check of a stretch of bytes. (The table is put on the stack once, and not again for each byte.)
 pub fn check_of(bytes: &[u8]) -> u16
-    ensures { λ r. ⌜ r ≡ checkOf (now (bytes .entry)) ⌝ }
+    ensures { λ r. ⌜ r ≡ crcOf (now (bytes .entry)) ⌝ }
 {
     let table = TABLE;
     along(&table, bytes)

@@ -2,7 +2,7 @@
 use mathlib.Core.List.{List}
 use Prim.Native.Nat.{ℕ}
 use Rattle.sheet.specs.Page.{MadeEnd, madeNumber}
-use Rattle.copies.specs.Copies.{Told}
+use Rattle.copies.specs.Copies.{Figures}
 use Rattle.page_face.specs.declared.CSizes.{CSizes}
 
 -- the number of refusal, and what the lent memory then holds
@@ -19,5 +19,5 @@ abbrev pub numbered : MadeEnd → CMade
 numbered e = faceMade (madeNumber (e .made)) (e .memory)
 
 -- what the reader answers
-abbrev pub faceSizes : Told → CSizes
+abbrev pub faceSizes : Figures → CSizes
 faceSizes t = record { main = t .sizes .main; pages = t .sizes .pages; blocks = t .sizes .blocks; spare = t .sizes .spare; copy = t .copy; refusal = t .refusal }

@@ -1,9 +1,9 @@
 // The parameter page in C: the functions of include/sleetanvil.h, "the parameter page". Plain numbers outside; every content is answered.
 ghost use mathlib.Core.Path.{_≡_};
 ghost use Rattle.face.specs.Face.{partOf};
-ghost use Rattle.crc.specs.Crc.{checkOf};
+ghost use Rattle.crc.specs.Crc.{crcOf};
 ghost use Rattle.sheet.specs.Page.{makeOf};
-ghost use Rattle.copies.specs.Copies.{told, readOf};
+ghost use Rattle.copies.specs.Copies.{figures, readOf};
 ghost use Rattle.page_face.specs.Face.{faceMade, numbered, faceSizes};
 use copies::Found;
 use face::CGeometry;
@@ -35,7 +35,7 @@ fn refused(refusal: u8) -> CSizes
 
 // The numbers of an answer.
 fn sizes_of(found: Found) -> CSizes
-    ensures { λ r. ⌜ r ≡ faceSizes (told found) ⌝ }
+    ensures { λ r. ⌜ r ≡ faceSizes (figures found) ⌝ }
 {
     match found {
         Found::At(copy, s) => CSizes {
@@ -64,7 +64,7 @@ pub extern "C" fn sleet_page_make(part: CGeometry, memory: &mut [u8]) -> u8
 // The first of the three copies that holds.
 #[no_mangle]
 pub extern "C" fn sleet_page_read(memory: &[u8]) -> CSizes
-    ensures { λ r. ⌜ r ≡ faceSizes (told (readOf (now (memory .entry)))) ⌝ }
+    ensures { λ r. ⌜ r ≡ faceSizes (figures (readOf (now (memory .entry)))) ⌝ }
 {
     sizes_of(copies::read(memory))
 }
@@ -72,7 +72,7 @@ pub extern "C" fn sleet_page_read(memory: &[u8]) -> CSizes
 // The check of a stretch of bytes.
 #[no_mangle]
 pub extern "C" fn sleet_page_check(bytes: &[u8]) -> u16
-    ensures { λ r. ⌜ r ≡ checkOf (now (bytes .entry)) ⌝ }
+    ensures { λ r. ⌜ r ≡ crcOf (now (bytes .entry)) ⌝ }
 {
     crc::check_of(bytes)
 }

@@ -1,3 +1,4 @@
+pub mod Exact
 pub mod Writing
 pub mod Pages
 pub mod Places

@@ -6,7 +6,7 @@ use native.Mathlib.Omega.{arith}
 use lib.ListN.{length, take, drop, drop-of-length-le, length-append}
 use lib.Seq.{take-all, take-at, drop-at}
 use Rattle.part.specs.declared.Geometry.{Geometry}
-use Rattle.crc.specs.Crc.{checkOf}
+use Rattle.crc.specs.Crc.{crcOf}
 use Rattle.texts.specs.Text.{bytes as characters}
 use Rattle.sheet.specs.Numbers.{lowFirst}
 use Rattle.sheet.specs.Sheet.{bytesIn, sheet, laid, sheetOf}
@@ -26,8 +26,8 @@ page-length g = rw (length-append, sheet-length g, low-length)
 pub page-laid :
     (g : Geometry) (d : List ℕ) → length d ≡ 2 →
     take 254 (sheetOf g ++ d)
-    ++ (lowFirst (length (take 2 (drop 254 (sheetOf g ++ d)))) (checkOf (take 254 (sheetOf g ++ d))) ++ drop 2 (drop 254 (sheetOf g ++ d)))
-    ≡ sheetOf g ++ lowFirst 2 (checkOf (sheetOf g))
+    ++ (lowFirst (length (take 2 (drop 254 (sheetOf g ++ d)))) (crcOf (take 254 (sheetOf g ++ d))) ++ drop 2 (drop 254 (sheetOf g ++ d)))
+    ≡ sheetOf g ++ lowFirst 2 (crcOf (sheetOf g))
 page-laid g d h =
     let drop-all : drop 2 d ≡ [] = drop-of-length-le d {i = 2} (omega arith) in
     rw (take-at (sheetOf g) d 254 (sheet-length g), drop-at (sheetOf g) d 254 (sheet-length g), take-all 2 d (omega arith), drop-all, h, append-nil)

@@ -9,12 +9,12 @@ use lib.ListN.{length, length-append}
 use lib.Seq.{take-all, take-at, drop-at}
 use Rattle.part.specs.declared.Geometry.{Geometry}
 use Rattle.part.proofs.Choice.{and-l, and-r}
-use Rattle.crc.specs.Crc.{checkOf, allFed, byteFed, bitFed}
+use Rattle.crc.specs.Crc.{crcOf, allFed, byteFed, bitFed}
 use Rattle.texts.specs.Text.{bytes as characters}
 use Rattle.sheet.specs.Numbers.{lowFirst, stretch}
 use Rattle.sheet.specs.Sheet.{Line, bytesIn, sheet, laid, sheetOf}
 use Rattle.sheet.specs.Page.{pageOf}
-use Rattle.sheet.specs.Promises.{Placed, PageWhole}
+use Rattle.sheet.specs.Promises.{Placed, PagesRight}
 use Rattle.sheet.specs.Cases.{KnownPages}
 use Rattle.sheet.proofs.Writing.{low-length}
 use Rattle.sheet.proofs.Pages.{sheet-length, page-length}
@@ -45,20 +45,20 @@ placed a before (l ∷ ls) behind e t =
 module _ (g : Geometry) where
   table-first : stretch 0 254 (pageOf g) ≡ sheetOf g
   unfolding pageOf
-  table-first = take-at (sheetOf g) (lowFirst 2 (checkOf (sheetOf g))) 254 (sheet-length g)
+  table-first = take-at (sheetOf g) (lowFirst 2 (crcOf (sheetOf g))) 254 (sheet-length g)
 
-  check-last : stretch 254 2 (pageOf g) ≡ lowFirst 2 (checkOf (sheetOf g))
+  check-last : stretch 254 2 (pageOf g) ≡ lowFirst 2 (crcOf (sheetOf g))
   unfolding pageOf
   check-last =
-      let c = lowFirst 2 (checkOf (sheetOf g)) in
-      rw (drop-at (sheetOf g) c 254 (sheet-length g)) (take-all 2 c (omega (arith, low-length 2 (checkOf (sheetOf g)))))
+      let c = lowFirst 2 (crcOf (sheetOf g)) in
+      rw (drop-at (sheetOf g) c 254 (sheet-length g)) (take-all 2 c (omega (arith, low-length 2 (crcOf (sheetOf g)))))
 
   lines-placed : Placed (pageOf g) (sheet g)
   unfolding pageOf
-  lines-placed = placed 0 [] (sheet g) (lowFirst 2 (checkOf (sheetOf g))) refl (sheet-follows g)
+  lines-placed = placed 0 [] (sheet g) (lowFirst 2 (crcOf (sheetOf g))) refl (sheet-follows g)
 
-pub page-whole : PageWhole
-page-whole g = record { long = page-length g; lines = lines-placed g; check = check-last g ∙ ap (λ (s : List ℕ). lowFirst 2 (checkOf s)) (sym (table-first g)) }
+pub pages-right : PagesRight
+pages-right g = record { long = page-length g; lines = lines-placed g; check = check-last g ∙ ap (λ (s : List ℕ). lowFirst 2 (crcOf s)) (sym (table-first g)) }
 
 pub known-pages : KnownPages
 unfolding pageOf laid sheet bytesIn lowFirst characters allFed byteFed bitFed

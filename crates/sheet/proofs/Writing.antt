@@ -3,10 +3,10 @@ use mathlib.Core.List.{List, [], _++_, append-nil}
 use mathlib.Core.Path.{_≡_, refl, sym, ap, _∙_}
 use Prim.Native.Nat.{ℕ, zero, suc, _+_, _-_, _/_, _%_, _≤_, _<_}
 use native.Mathlib.Nat.{add-zero}
-use native.Mathlib.Numerals.{add-one}
 use native.Mathlib.Omega.{arith}
 use lib.ListN.{length, take, drop, set, getD, length-set}
-use lib.Seq.{take-length, drop-length, take-suc, drop-cons, append-snoc, set-at, length-take-le, getD-drop, drop-drop}
+use lib.Seq.{take-length, drop-length, getD-drop, drop-drop}
+use Rattle.texts.proofs.Laying.{copied-more}
 use Rattle.sheet.specs.Numbers.{lowFirst}
 
 -- i bytes of src are written over l₀, and l is what there is then
@@ -26,15 +26,7 @@ module _ {src l₀ l : List ℕ} {i : ℕ} (w : Written src l₀ l i) where
       let k : i < length l₀ = omega (arith, w .fits) in
       record {
         within = omega arith;
-        so-far = rw (
-          w .so-far,
-          e,
-          drop-cons l₀ i 0 k,
-          set-at (take i src) (getD l₀ i 0) (drop (suc i) l₀) (getD src i 0) i (length-take-le i src (w .within)),
-          add-one i,
-          take-suc src i 0 h,
-          append-snoc (take i src) (getD src i 0) (drop (suc i) l₀),
-        );
+        so-far = rw (w .so-far, e) (copied-more src l₀ i h k);
         long = simp length-set (w .long);
         fits = w .fits;
       }

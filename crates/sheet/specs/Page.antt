@@ -6,7 +6,7 @@ use lib.ListN.{length, drop}
 use Rattle.part.specs.Choice.{if_then_else_}
 use Rattle.part.specs.Part.{soundPart}
 use Rattle.part.specs.declared.Geometry.{Geometry}
-use Rattle.crc.specs.Crc.{checkOf}
+use Rattle.crc.specs.Crc.{crcOf}
 use Rattle.sheet.specs.Numbers.{lowFirst}
 use Rattle.sheet.specs.Sheet.{sheetOf}
 use Rattle.sheet.specs.declared.Made.{Made}
@@ -14,7 +14,7 @@ use Rattle.sheet.specs.declared.Made.the-variants.{Laid, BadPart, NoRoom
 
 -- the 256 bytes: 003's table, and the check of bytes 0 to 253, low byte first
 unfoldable pub pageOf : Geometry → List ℕ
-pageOf g = sheetOf g ++ lowFirst 2 (checkOf (sheetOf g))
+pageOf g = sheetOf g ++ lowFirst 2 (crcOf (sheetOf g))
 
 -- the numbers of refusal: 1 for a part that is not sound, 11 for memory shorter than 256 bytes
 abbrev pub madeNumber : Made → ℕ

@@ -6,7 +6,7 @@ use Prim.Native.Nat.{ℕ, _≤_, _<_}
 use lib.ListN.{length, take, drop}
 use Rattle.part.specs.Part.{Sound}
 use Rattle.part.specs.declared.Geometry.{Geometry}
-use Rattle.crc.specs.Crc.{checkOf}
+use Rattle.crc.specs.Crc.{crcOf}
 use Rattle.sheet.specs.Numbers.{lowFirst, stretch}
 use Rattle.sheet.specs.Sheet.{Line, bytesIn, sheet}
 use Rattle.sheet.specs.Page.{pageOf, madeNumber, makeOf}
@@ -19,14 +19,14 @@ Placed p [] = Unit
 Placed p (l ∷ ls) = (stretch (l .place) (l .size) p ≡ bytesIn (l .size) (l .content)) × Placed p ls
 
 -- a page has 256 bytes: each line of 003's table at its place, and the check of bytes 0 to 253 at 254
-pub record Whole (g : Geometry) (p : List ℕ) : Type 0 where
+pub record RightPage (g : Geometry) (p : List ℕ) : Type 0 where
   pub long : length p ≡ 256
   pub lines : Placed p (sheet g)
-  pub check : stretch 254 2 p ≡ lowFirst 2 (checkOf (stretch 0 254 p))
+  pub check : stretch 254 2 p ≡ lowFirst 2 (crcOf (stretch 0 254 p))
 
 -- so it is with the page of every part
-abbrev pub PageWhole : Type 0
-PageWhole = (g : Geometry) → Whole g (pageOf g)
+abbrev pub PagesRight : Type 0
+PagesRight = (g : Geometry) → RightPage g (pageOf g)
 
 -- ---- the maker
 

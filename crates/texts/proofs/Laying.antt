@@ -11,7 +11,7 @@ use Rattle.texts.specs.Text.{upToNul, faceLaid, textLaid}
 use Rattle.texts.proofs.Scans.{same-byte, goes-on, has-ended}
 
 -- one more byte of a text
-copied-more : (text l : List ℕ) (i : ℕ) → i < length text → i < length l → set (take i text ++ drop i l) i (getD text i 0) ≡ take (i + 1) text ++ drop (i + 1) l
+pub copied-more : (text l : List ℕ) (i : ℕ) → i < length text → i < length l → set (take i text ++ drop i l) i (getD text i 0) ≡ take (i + 1) text ++ drop (i + 1) l
 copied-more text l i h k =
     rw (drop-cons l i 0 k, set-at (take i text) (getD l i 0) (drop (suc i) l) (getD text i 0) i (length-take-le i text (omega arith)), add-one i, take-suc text i 0 h, append-snoc (take i text) (getD text i 0) (drop (suc i) l))
 

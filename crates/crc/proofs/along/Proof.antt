@@ -4,13 +4,13 @@ use Prim.Native.Nat.{_-_, _≤_}
 use native.Mathlib.Omega.{arith}
 use lib.ListN.{length, drop}
 use denote.Ref.{now}
-use Rattle.crc.specs.Crc.{allFed, checkOf}
+use Rattle.crc.specs.Crc.{allFed, crcOf}
 use Rattle.crc.proofs.Linear.{two-on, last-on, all-end}
 use Rattle.crc.proofs.along.Statement.{statement}
 use Rattle.crc.proofs.along.Tie as tie
 
 abbrev Inv-loop : tie.InvT-loop
-Inv-loop table bytes c₀ i₀ c i = (i ≤ length bytes) × (allFed c (drop i bytes) ≡ checkOf bytes)
+Inv-loop table bytes c₀ i₀ c i = (i ≤ length bytes) × (allFed c (drop i bytes) ≡ crcOf bytes)
 
 abbrev μ-loop : tie.MeasureT-loop
 μ-loop table bytes c₀ i₀ c i = length bytes - i
