@@ -11,7 +11,7 @@ use std::process;
 const ARCHIVE: &str = "libsleetanvil.a";
 
 /// A function of the archive's last crate: one that `rt staticlib` made of a single crate lacks it.
-const LAST: &[u8] = b"sleet_page_make";
+const LAST: &[u8] = b"sleet_card_run";
 
 fn main() {
     println!("cargo:rerun-if-env-changed=SLEETANVIL_LIB");

@@ -57,11 +57,11 @@ pub use state::{Job, Operation, State};
 /// The C interface's own structs and functions, one safe function for each.
 pub mod raw {
     pub use crate::ffi::{
-        bench, blank, cache_length, cells_length, counts_length, deselect, fm25s005bi3,
-        geometry_sound, judge, keeper_add, keeper_grant, keeper_new, level, next, operation_length,
-        page_check, page_make, page_read, peek, power, power_up, run, select, shift, shifts,
-        state_sound, text, transfer, units_left, version, work, write, RawAdded, RawAnswer,
-        RawFound, RawGranted, RawJudged, RawKeeper, RawPeeked, RawQueue, RawRecord, RawSizes,
-        RawWrote, TEXT, VERSION,
+        bench, blank, cache_length, card_command, card_power_up, card_run, cells_length,
+        counts_length, deselect, fm25s005bi3, geometry_sound, judge, keeper_add, keeper_grant,
+        keeper_new, level, next, operation_length, page_check, page_make, page_read, peek, power,
+        power_up, run, select, shift, shifts, state_sound, text, transfer, units_left, version,
+        work, write, RawAdded, RawAnswer, RawCard, RawCardAnswer, RawFound, RawGranted, RawJudged,
+        RawKeeper, RawPeeked, RawQueue, RawRecord, RawSizes, RawWrote, TEXT, VERSION,
     };
 }

@@ -9,7 +9,8 @@ use crate::ffi;
 ///
 /// 1 to 5 are found before anything is done. 6 to 9 stop a run before one record; the records
 /// before it stand. 10 and 11 are of parameter pages alone: no byte is changed. 14 to 16 and 20 come
-/// from a keeper of the bus alone, which is then as it was. Later versions may have more.
+/// from a keeper of the bus alone, which is then as it was. 17 and 18 come from a card alone: nothing
+/// is done. Later versions may have more.
 #[derive(Clone, Copy, Debug, PartialEq, Eq, PartialOrd, Ord, Hash)]
 #[repr(u8)]
 #[non_exhaustive]
@@ -24,13 +25,13 @@ pub enum Refusal {
     BadCounts = 4,
     /// The state is not sound.
     BadState = 5,
-    /// The next kind is none of 01h to 06h.
+    /// The next kind is not in the log's table.
     BadKind = 6,
     /// The log ends inside a body.
     ShortBody = 7,
     /// A WP# level above 1.
     BadLevel = 8,
-    /// No output room left for a shift, or too little room for a record.
+    /// No output room left for a shift or for a card's answer, or too little room for a record.
     NoRoom = 9,
     /// No copy of the parameter page has both signature and check.
     NoCopy = 10,
@@ -42,13 +43,17 @@ pub enum Refusal {
     QueueFull = 15,
     /// No transfer waits.
     AllEmpty = 16,
+    /// The card's cells are not 1,024 bytes.
+    BadCardCells = 17,
+    /// The card's protect bits are not 128 bytes.
+    BadCardBits = 18,
     /// The keeper is not sound.
     BadKeeper = 20,
 }
 
 impl Refusal {
     /// All of them, by number.
-    pub const ALL: [Refusal; 15] = [
+    pub const ALL: [Refusal; 17] = [
         Refusal::BadPart,
         Refusal::BadCells,
         Refusal::BadCache,
@@ -63,10 +68,12 @@ impl Refusal {
         Refusal::BadCore,
         Refusal::QueueFull,
         Refusal::AllEmpty,
+        Refusal::BadCardCells,
+        Refusal::BadCardBits,
         Refusal::BadKeeper,
     ];
 
-    /// The number: 1 to 11, 14 to 16 or 20.
+    /// The number: 1 to 11, 14 to 18 or 20.
     pub fn number(self) -> u8 {
         self as u8
     }

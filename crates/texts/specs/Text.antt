@@ -20,7 +20,8 @@ infix 70 _means_
 abbrev pub _means_ : ℕ → String → Meaning
 n means s = record { number = n; words = s }
 
--- document 01's lines, in their order, and then those of document 02: of parameter pages (item 1), of a keeper (item 9)
+-- document 01's lines, in their order, and then those of document 02: of parameter pages (item 1), of a card (item 5),
+-- of a keeper (item 9)
 unfoldable pub meanings : List Meaning
 meanings =
     0 means "done"
@@ -29,7 +30,7 @@ meanings =
     ∷ 3 means "cache register of the wrong length"
     ∷ 4 means "page counts of the wrong length"
     ∷ 5 means "the state is not sound"
-    ∷ 6 means "the next kind is none of 01h to 06h"
+    ∷ 6 means "the next kind is not in the table"
     ∷ 7 means "the log ends inside a body"
     ∷ 8 means "a WP# level above 1"
     ∷ 9 means "no output room, or too little for a record"
@@ -38,6 +39,8 @@ meanings =
     ∷ 14 means "a core above 3"
     ∷ 15 means "eight transfers wait in that queue"
     ∷ 16 means "no transfer waits"
+    ∷ 17 means "card cells of the wrong length"
+    ∷ 18 means "card protect bits of the wrong length"
     ∷ 20 means "the keeper is not sound"
     ∷ []
 

@@ -93,7 +93,7 @@ pub fn lay_text(refusal: u8, out: &mut [u8]) -> usize
         \x03cache register of the wrong length\0\
         \x04page counts of the wrong length\0\
         \x05the state is not sound\0\
-        \x06the next kind is none of 01h to 06h\0\
+        \x06the next kind is not in the table\0\
         \x07the log ends inside a body\0\
         \x08a WP# level above 1\0\
         \x09no output room, or too little for a record\0\
@@ -102,6 +102,8 @@ pub fn lay_text(refusal: u8, out: &mut [u8]) -> usize
         \x0Ea core above 3\0\
         \x0Feight transfers wait in that queue\0\
         \x10no transfer waits\0\
+        \x11card cells of the wrong length\0\
+        \x12card protect bits of the wrong length\0\
         \x14the keeper is not sound\0",
         refusal,
         out,
