@@ -30,7 +30,7 @@ use Rattle.refusals.specs.Refusals.{passed, checkedAs}
 use Rattle.refusals.specs.declared.Refusal.{Refusal}
 use Rattle.refusals.specs.declared.Refusal.the-variants.{Done, NoRoom}
 use Rattle.walk.specs.declared.Answer.{Answer}
-use Rattle.walk.proofs.Turns.{over-none}
+use Rattle.buslog.proofs.RoundTrip.{over-none}
 use Rattle.model.specs.Runs.{End, shiftsIn, fitting, bytesOut, did, ranOf, runOf, seen, shown}
 use Rattle.model.proofs.Single.{run-ran}
 use Rattle.model.proofs.Rooms.{fitting-all, run-parts, out-parts, shifts-append}

@@ -6,7 +6,6 @@ use native.Mathlib.Nat.{zero-add, add-zero}
 use native.Mathlib.Omega.{arith}
 use lib.Dec.{ltb}
 use lib.ListN.{length, drop, length-append, length-drop}
-use lib.Seq.{drop-at, take-at, drop-drop}
 use borrow.Author.Tests.{ltb-true, ltb-false}
 use Rattle.part.specs.declared.Geometry.{Geometry}
 use Rattle.part.proofs.Choice.{cond-keep}
@@ -19,7 +18,7 @@ use Rattle.buslog.specs.declared.Next.{Next}
 use Rattle.buslog.specs.declared.Next.the-variants.{Found, Stop}
 use Rattle.buslog.specs.declared.Why.{Why}
 use Rattle.buslog.proofs.Logs.{bodyOf, drop-bytes, found-bytes, front-body, front-found, length-written}
-use Rattle.buslog.proofs.RoundTrip.{found-front, stop-front}
+use Rattle.buslog.proofs.RoundTrip.{over-behind, found-front, stop-front}
 use Rattle.device.specs.Machine.{Machine, machine}
 use Rattle.device.specs.Work.{Array}
 use Rattle.device.specs.Step.{step, run}
@@ -38,13 +37,6 @@ use Rattle.model.proofs.Rooms.{puts-length, left-ends, left-full, left-
 -- what a run has done so far, before an outcome
 abbrev pub onTop : ℕ → ℕ → List ℕ → Outcome → Outcome
 onTop records at out o = record { refusal = o .refusal; machine = o .machine; records = records + o .records; used = at + o .used; output = out ++ o .output }
-
--- bytes laid right behind those written
-over-behind : (bytes old new : List ℕ) (count : ℕ) → length bytes ≡ count → over (bytes ++ drop count old) count new ≡ bytes ++ new ++ drop (count + length new) old
-unfolding over
-over-behind bytes old new count e =
-    rw (take-at bytes (drop count old) count e, ← (drop-drop (length new) count (bytes ++ drop count old)), drop-at bytes (drop count old) count e, drop-drop (length new) count old)
-    (sym (append-assoc bytes new (drop (count + length new) old)))
 
 -- a shift's byte is a byte of the log
 byte-shifted : (e : Record) (l : List ℕ) → Bytes (bytesOf e ++ l) → ByteIn e

@@ -23,7 +23,8 @@ use Rattle.kept.specs.Kept.{Keeps}
 use Rattle.walk.specs.Turns.{takes, puts}
 use Rattle.walk.specs.declared.Walk.{Walk}
 use Rattle.walk.specs.declared.Went.the-variants.{On}
-use Rattle.walk.proofs.Turns.{over-one, turn-goes}
+use Rattle.buslog.proofs.RoundTrip.{over-one}
+use Rattle.walk.proofs.Turns.{turn-goes}
 use Rattle.stream.specs.Streams.{ShiftAt, byteIn, Shifted, none, more, Streamed}
 use Rattle.stream.specs.declared.Stream.{Stream}
 use Rattle.model.proofs.Loop.{Going, going-next, going-on, out-long, byte-found}

@@ -1,12 +1,9 @@
--- What one record done asks for and leaves: the memory is ready, the output is laid at its place; and a turn, case by case.
+-- What one record done asks for: the memory is ready; and a turn, case by case.
 use mathlib.Core.List.{List, [], _∷_}
 use mathlib.Core.Path.{_≡_, sym, _∙_}
 use Prim.Native.Nat.{ℕ, suc, _+_, _-_, _≤_, _<_}
-use native.Mathlib.Nat.{add-zero}
-use native.Mathlib.Numerals.{add-one}
 use native.Mathlib.Omega.{arith}
-use lib.ListN.{length, drop, set, take-append-drop, length-drop}
-use lib.Seq.{set-split}
+use lib.ListN.{length, drop, length-drop}
 use borrow.Author.Tests.{lt-ltb, le-ltb}
 use Rattle.part.specs.Part.{Sound}
 use Rattle.part.specs.declared.Geometry.{Geometry}
@@ -39,15 +36,6 @@ module _ (g : Geometry) (s : Sound g) where
       go : (w : Work) → WorkSound g w → WorkReady g w (m .store)
       go Idle k = tt
       go (Busy j i) k = record { part = s; going = k; fits = h .fits }
-
--- no byte laid changes nothing; one byte laid is one byte stored
-pub over-none : (out : List ℕ) (at : ℕ) → out ≡ over out at []
-unfolding over
-over-none out at = sym (rw (add-zero at) (take-append-drop at out))
-
-pub over-one : (out : List ℕ) (at b : ℕ) → at < length out → set out at b ≡ over out at (b ∷ [])
-unfolding over
-over-one out at b h = set-split out at b h ∙ rw (add-one at)
 
 -- the place behind a record is further on, and within the log
 pub further : (log : List ℕ) (at : ℕ) → at ≤ length log → (e : Record) (n : ℕ) → nextOf log at ≡ Found e n → (at < n) × (n ≤ length log)

@@ -8,7 +8,8 @@ use Rattle.device.specs.declared.State.{State}
 use Rattle.device.specs.Machine.{machine}
 use Rattle.device.specs.Work.{stepping}
 use Rattle.device.specs.Step.{step}
-use Rattle.walk.proofs.Turns.{work-ready, over-none, over-one}
+use Rattle.buslog.proofs.RoundTrip.{over-none, over-one}
+use Rattle.walk.proofs.Turns.{work-ready}
 use borrow.Author.Needs.{needs}
 use Rattle.walk.proofs.turn.Statement.{statement}
 use Rattle.walk.proofs.turn.Tie as tie

@@ -1,0 +1,4 @@
+pub mod Digits
+pub mod Stored
+pub mod Lengths
+pub mod OneAnswer

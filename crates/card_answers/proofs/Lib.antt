@@ -1,0 +1,4 @@
+pub mod Logs
+pub mod Lines
+pub mod Effects
+pub mod Parts

@@ -1,0 +1,9 @@
+pub mod Records
+pub mod Steps
+pub mod Digits
+pub mod Shut
+pub mod Protected
+pub mod Counter
+pub mod Passes
+pub mod Tries
+pub mod Hidden

@@ -1,0 +1,4 @@
+pub mod Rooms
+pub mod Turns
+pub mod Loop
+pub mod OneAnswer
