@@ -50,6 +50,13 @@ fn pages_from_c() {
 }
 
 #[test]
+fn cards_from_c() {
+    for names in C {
+        Compiler::c(names).run_test("card.c", &[]);
+    }
+}
+
+#[test]
 fn sleetanvil_device_h_from_c() {
     for names in C {
         Compiler::c(names).run_test("device.c", &[]);
@@ -60,7 +67,7 @@ fn sleetanvil_device_h_from_c() {
 fn sleetanvil_hpp_from_cpp() {
     for names in CPP {
         let compiler = Compiler::cpp(names);
-        for source in ["device.cpp", "keeper.cpp", "page.cpp"] {
+        for source in ["device.cpp", "keeper.cpp", "page.cpp", "card.cpp"] {
             compiler.run_test(source, &["-Wold-style-cast"]);
         }
     }
@@ -72,7 +79,7 @@ fn c_headers_from_cpp() {
     Compiler::cpp(CPP[0]).run_test("run_log.c", &[]);
     for names in CPP {
         let compiler = Compiler::cpp(names);
-        for source in ["run_log.c", "device.c", "keeper.c", "page.c"] {
+        for source in ["run_log.c", "device.c", "keeper.c", "page.c", "card.c"] {
             run(compiler.strict(source).arg("-fsyntax-only"));
         }
     }
@@ -128,6 +135,7 @@ fn the_archive_has_the_headers_functions() {
     let exported = index(&archive).expect("an index of names");
     assert_eq!(exported, declared);
     assert!(declared.contains("sleet_run") && declared.contains("sleet_page_make"));
+    assert!(declared.contains("sleet_card_run") && declared.contains("sleet_card_command"));
 }
 
 /// The name of the function that is declared at a place of the header: the line begins with its
