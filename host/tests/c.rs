@@ -98,11 +98,13 @@ fn programs_of_the_papers() {
         [
             "core 0: 00\ncore 1: FF\ncore 3: 01\ncore 0: 02\n",
             "copy 1: 2048 + 128 bytes a page, 64 pages a block, 512 blocks\n",
+            "before: FF\nafter: A5, protect bit 1\n",
         ]
     );
 }
 
-/// The programs that stand in a paper of the project, in its order, each as a file of its own.
+/// The programs that stand in a paper of the project, in its order, each as a file of its own. A
+/// program goes from its first header to the end of `main`.
 fn programs_of(paper: &str) -> Vec<String> {
     let project = Path::new(env!("CARGO_MANIFEST_DIR")).join("..");
     let text = fs::read_to_string(project.join(paper)).expect("a paper");
@@ -110,8 +112,11 @@ fn programs_of(paper: &str) -> Vec<String> {
     let mut programs = Vec::new();
     while let Some(first) = lines.find(|line| *line == "    #include <stdio.h>") {
         let mut program = vec![first];
-        while program.last() != Some(&"    }") {
-            program.push(lines.next().expect("the end of a program"));
+        let mut begun = false;
+        while !begun || program.last() != Some(&"    }") {
+            let line = lines.next().expect("the end of a program");
+            begun |= line == "    int main(void)";
+            program.push(line);
         }
         let plain = |line: &&str| String::from(line.strip_prefix("    ").unwrap_or(line));
         let plain: Vec<_> = program.iter().map(plain).collect();

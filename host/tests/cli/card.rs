@@ -293,6 +293,20 @@ fn a_card_trace() {
     assert_eq!(fs::read(plain).expect("the card"), image(&card));
 }
 
+/// The trace that the paper for drivers shows is the one that is printed.
+#[test]
+fn a_card_trace_of_the_papers() {
+    let commands = [OPEN[0], Command::Read { address: COUNTER }, OPEN[1]];
+    let printed = succeeds(&with_input(&["card", "--trace", "-"], &log(&commands)));
+    let shown: String = printed
+        .lines()
+        .map(|line| format!("    {line}\n"))
+        .collect();
+    let paper = concat!(env!("CARGO_MANIFEST_DIR"), "/../docs/FOR-DRIVERS.md");
+    let paper = fs::read_to_string(paper).expect("the paper");
+    assert!(paper.contains(&format!("\n\n{shown}\n")), "{shown}");
+}
+
 /// The answer in the trace is the library's, for every first byte, before and after the code.
 #[test]
 fn a_card_trace_has_the_answers() {
