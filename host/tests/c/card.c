@@ -1,7 +1,7 @@
 /*
- * The card slot from C (and compiled as C++ too): a table of commands worked out by hand, every code and every counter mask, the two
- * borders of each address range, what is hidden and what is protected, and each refusal with what it leaves behind. Each check that fails
- * is printed; the program's status is 0 if there is none.
+ * The card slot from C (and compiled as C++ too): a table of commands worked out by hand, every code, every counter mask and
+ * every compare, each address, what is hidden and what is protected, and each refusal with what it leaves behind. Each check that fails is
+ * printed; the program's status is 0 if there is none.
  */
 #include <stddef.h>
 #include <string.h>
@@ -10,7 +10,7 @@
 #include "sleetanvil.h"
 
 SIZE_IS(sleet_card, 1);
-SIZE_IS(sleet_card_answer, 3 * sizeof(size_t) + 8);
+SIZE_IS(sleet_card_answer, 32);
 
 enum { GUARD = 16, GUARDED = 0x5E, UNWRITTEN = 0xEE };
 
@@ -281,6 +281,35 @@ static void check_masks(void)
     }
 }
 
+/* Every byte compared with each code byte at every stage: a step is taken where it is the next one and right, and no memory changes. */
+static void check_compares(void)
+{
+    unsigned address;
+    unsigned data;
+    uint8_t stage;
+
+    for (address = 1022; address < 1024; address++) {
+        for (stage = SLEET_CARD_FRESH; stage <= SLEET_CARD_OPEN; stage++) {
+            for (data = 0; data < 256; data++) {
+                slot at = new_slot();
+                slot wanted;
+                at.cells[1022] = 0x12;
+                at.cells[1023] = 0x34;
+                at.card.stage = stage;
+                wanted = at;
+                wanted.card.stage = stage == SLEET_CARD_OPEN ? SLEET_CARD_OPEN : SLEET_CARD_FRESH;
+                if (stage == SLEET_CARD_COUNTED && address == 1022 && data == 0x12) {
+                    wanted.card.stage = SLEET_CARD_HALF;
+                }
+                if (stage == SLEET_CARD_HALF && address == 1023 && data == 0x34) {
+                    wanted.card.stage = SLEET_CARD_OPEN;
+                }
+                CHECK(send(&at, SLEET_CARD_COMPARE, address, data) == 0xFFFF && same_slot(&at, &wanted));
+            }
+        }
+    }
+}
+
 /* Each address has its own cell and its own protect bit, in reads, writes and protection. */
 static void check_addresses(void)
 {
@@ -449,6 +478,7 @@ int main(void)
     check_table();
     check_ignored();
     check_masks();
+    check_compares();
     check_addresses();
     check_frozen();
     check_refused_at_once();

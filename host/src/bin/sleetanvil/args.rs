@@ -100,9 +100,11 @@ An image file holds, with numbers low byte first:
            4 bytes
   then     the cache register
 Version 1 ends with the page counts; a replay of it begins at power-up. A file
-of version 2 is what is saved. The image of a card is 1152 bytes: its cells, 1024
-bytes, and its protect bits, 128 bytes, where bit a mod 8 of byte a / 8 belongs
-to address a. How far the code has come is not in it: pulling a card undoes that.
+of version 2 is what is saved.
+
+The image of a card is 1152 bytes: the cells, 1024 bytes, then the protect bits,
+128 bytes, where bit a mod 8 of byte a / 8 belongs to address a. How far the
+code has come is not in it: a card that was pulled is closed.
 
 A file is saved under another name in the same folder and then renamed, so that
 it is whole or as it was. Links are followed, and a file that is replaced gives
@@ -111,8 +113,8 @@ anything is done. A log that is refused leaves it as it was.
 
 exit status:
   0    done
-  1    a bad file, a refused log (judged or not), output that differs, or a
-       parameter page that is refused
+  1    a bad file, a refused log (judged or not, of the flash or of a card),
+       output that differs, or a parameter page that is refused
   2    a bad command line
   3    with --judge: the log was read to its end, all is done, and the log is
        not orderly
