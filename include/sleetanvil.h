@@ -1,5 +1,5 @@
 /*
- * Sleetanvil: a proved model of a serial NAND flash (FM25S005BI3 and a small bench part).
+ * Sleetanvil: a proved model of a serial NAND flash (FM25S005BI3 and a small bench part), and of a memory card (FM4428).
  *
  * Who owns what. Every buffer is the caller's and is only lent for the length of a call; the library keeps nothing between calls, allocates
  * nothing and has no state of its own. Structs go in and come back by value. A buffer is a pointer and the number of its bytes; buffers of
@@ -43,11 +43,11 @@ enum {
     SLEET_BAD_CELLS = 2,  /* cells of the wrong length; nothing done */
     SLEET_BAD_CACHE = 3,  /* cache register of the wrong length; nothing done */
     SLEET_BAD_COUNTS = 4, /* page counts of the wrong length; nothing done */
-    SLEET_BAD_STATE = 5,  /* the state is not sound; nothing done */
-    SLEET_BAD_KIND = 6,   /* the next kind is none of 01h to 06h; stopped before it */
+    SLEET_BAD_STATE = 5,  /* the state, or a card's stage, is not sound; nothing done */
+    SLEET_BAD_KIND = 6,   /* the next kind is not in the log's table; stopped before it */
     SLEET_SHORT_BODY = 7, /* the log ends inside a body; stopped before it */
     SLEET_BAD_LEVEL = 8,  /* a WP# level above 1; stopped before it */
-    SLEET_NO_ROOM = 9,    /* a shift and no output room left, or too little room for a record; stopped before it */
+    SLEET_NO_ROOM = 9,    /* no output room left for a shift or for a card's answer, or too little room for a record; stopped before it */
     /* 10 and 11 come from parameter pages alone, and then not a byte is changed */
     SLEET_NO_COPY = 10,      /* no copy has both its signature and its check */
     SLEET_SHORT_MEMORY = 11, /* memory shorter than the page that is to be made, or than the three copies that are to be read */
@@ -55,7 +55,10 @@ enum {
     SLEET_BAD_CORE = 14,   /* a core above 3 */
     SLEET_QUEUE_FULL = 15, /* eight transfers wait in that core's queue */
     SLEET_ALL_EMPTY = 16,  /* no transfer waits */
-    SLEET_BAD_KEEPER = 20  /* the keeper is not sound; checked before the others */
+    SLEET_BAD_KEEPER = 20, /* the keeper is not sound; checked before the others */
+    /* 17 and 18 come from a card alone; nothing done */
+    SLEET_BAD_CARD_CELLS = 17, /* a card's cells are not 1,024 bytes */
+    SLEET_BAD_CARD_BITS = 18   /* a card's protect bits are not 128 bytes */
 };
 
 /* ---- names of the device ---- */
@@ -391,6 +394,89 @@ sleet_sizes sleet_page_read(const uint8_t *memory, size_t length);
  * inverted at the end. That of the nine bytes "123456789" is 2771h, that of no byte 4F4Eh.
  */
 uint16_t sleet_page_check(const uint8_t *bytes, size_t length);
+
+/* ---- the card slot ---- */
+
+/*
+ * The FM4428 is a memory card of 1,024 bytes, with a protect bit for each and a security code of two bytes. It stands beside the device and
+ * shares nothing with it. The caller keeps the card and lends its memory, the same again with each call: the cells, and the protect bits,
+ * where bit a mod 8 of byte a / 8 belongs to address a. 1 is open; 0 is protected for ever: no call changes that byte, or makes that bit 1
+ * again. What is asked of pointers stands at the head of this file: none is null, and no two buffers of one call overlap.
+ *
+ * A command is three bytes. The first has the code in its bits 5 to 0 and bits 9 and 8 of the address in its bits 7 and 6, the second has
+ * bits 7 to 0 of the address, the third the data. Each command answers one byte: a read the cell, any other FFh. SLEET_CARD_READ_BIT
+ * answers a second, 01h where the byte is open and 00h where it is protected. A command that is not in the table, or at an address that
+ * the table does not give it, is ignored, and answers FFh.
+ *
+ * Until the code has passed, the code bytes read 00h, and only SLEET_CARD_COUNT changes anything: it takes bits from the counter. The code
+ * passes by three commands, each right behind the other: SLEET_CARD_COUNT that clears a bit, then right compares of the first code byte and
+ * of the second. Any other command between, even an ignored one or a wrong compare, starts it anew; a count that clears a bit is then the
+ * new first step. The card is then open until power is lost; a power loss also undoes steps already taken. docs/FOR-DRIVERS.md has the
+ * commands as a table, what a driver of a card reader gets wrong, and a program.
+ *
+ * No content is named for a card as it is delivered. One whose cells and protect bits are all FFh has nothing written, nothing protected,
+ * all eight tries, and the code FFh FFh.
+ */
+enum { SLEET_CARD_CELLS = 1024, SLEET_CARD_BITS = 128 }; /* bytes of the cells, and of the protect bits */
+
+/* Addresses: the counter, a bit for each try that is left; and the first code byte, with the second behind it. */
+enum { SLEET_CARD_COUNTER = 1021, SLEET_CARD_CODE = 1022 };
+
+/* Codes of the commands. The first byte of one is its code + 64 * (address / 256). */
+enum {
+    SLEET_CARD_WRITE_PROTECT = 0x31, /* write the data, and protect the byte */
+    SLEET_CARD_WRITE = 0x33,         /* write the data */
+    SLEET_CARD_PROTECT = 0x30,       /* protect the byte, if it holds the data */
+    SLEET_CARD_READ_BIT = 0x0C,      /* read the byte and its protect bit; the data is not looked at */
+    SLEET_CARD_READ = 0x0E,          /* read the byte; the data is not looked at */
+    SLEET_CARD_COUNT = 0x32,         /* at SLEET_CARD_COUNTER: put in counter AND data, if that clears exactly one bit */
+    SLEET_CARD_COMPARE = 0x0D        /* at SLEET_CARD_CODE and at the address behind it: compare the data with the code byte */
+};
+
+/* The kind of a command in a card log; the body is its three bytes. A card log has this kind and SLEET_KIND_POWER. */
+enum { SLEET_KIND_COMMAND = 0x20 };
+
+/* `stage`: how far the code has come. */
+enum {
+    SLEET_CARD_FRESH = 0,   /* no step is taken */
+    SLEET_CARD_COUNTED = 1, /* a counter bit was cleared */
+    SLEET_CARD_HALF = 2,    /* and the first code byte was right */
+    SLEET_CARD_OPEN = 3     /* and the second: the code has passed */
+};
+
+/* A card beside its memory. Sound if its stage is at most 3; one that came back from a call on a sound one is sound. */
+typedef struct sleet_card {
+    uint8_t stage;
+} sleet_card;
+
+/* A card that power has just come to: SLEET_CARD_FRESH. That is also what a power loss makes of any card. */
+sleet_card sleet_card_power_up(void);
+
+typedef struct sleet_card_answer {
+    size_t records;  /* records done */
+    size_t used;     /* log bytes used: those of the records done */
+    size_t written;  /* output bytes written: one for each command done, two for SLEET_CARD_READ_BIT */
+    sleet_card card; /* the card after the records done */
+    uint8_t refusal; /* 0; or, the first that holds: 17, 18, 5; then at each record 6, 7, 9 */
+} sleet_card_answer;
+
+/*
+ * Run a card log. What the buffers hold after a refusal:
+ *  - 17, 18 and 5 are found before the first record. Nothing was done: the counts are 0, the card comes back as it was given, and no byte
+ *    of cells, protect bits or output is changed.
+ *  - 6, 7 and 9 stop it before one record. The records before it stand, in cells, protect bits, output and the card; output past `written`
+ *    is unchanged. 9 is given where the whole answer finds no room: of the two bytes of SLEET_CARD_READ_BIT none is then written. A record
+ *    of power needs no room.
+ */
+sleet_card_answer sleet_card_run(sleet_card card, const uint8_t *log, size_t log_length, uint8_t *cells, size_t cells_length, uint8_t *bits,
+                                 size_t bits_length, uint8_t *out, size_t out_length);
+
+/*
+ * One command, through the same checks: it is the run of the record 20h, first, second, third. So `records` is 1 and `used` 4 where it is
+ * done, and it is refused with 17, 18, 5 and 9 alone.
+ */
+sleet_card_answer sleet_card_command(sleet_card card, uint8_t first, uint8_t second, uint8_t third, uint8_t *cells, size_t cells_length,
+                                     uint8_t *bits, size_t bits_length, uint8_t *out, size_t out_length);
 
 /* ---- words ---- */
 

@@ -1,6 +1,6 @@
 /*
- * A device for C++11 and later: part, state and memory in one value. A keeper of the bus, for four cores that share one device. And the
- * parameter page, from which boot code sizes a part.
+ * A device for C++11 and later: part, state and memory in one value. A keeper of the bus, for four cores that share one device. The
+ * parameter page, from which boot code sizes a part. And a memory card, with its memory in one value too.
  *
  *     sleetanvil::device flash(sleet_bench());
  *     const uint8_t di[] = {SLEET_CODE_READ_ID, 0, 0, 0};
@@ -40,10 +40,22 @@
  *     if (const sleetanvil::sizes found = sleetanvil::page_read(memory.data(), memory.size())) {
  *         sleetanvil::device flash(found.part(0xA1, 0xD5)); // check it: the page need not hold a sound geometry
  *     }
+ *
+ * The card slot. What sleetanvil.h says of a card holds for the class `card`:
+ *
+ *     sleetanvil::card card; // a new one: its code is FFh FFh
+ *     card.command(SLEET_CARD_COUNT, SLEET_CARD_COUNTER, 0xFE);
+ *     card.command(SLEET_CARD_COMPARE, SLEET_CARD_CODE, 0xFF);
+ *     card.command(SLEET_CARD_COMPARE, SLEET_CARD_CODE + 1, 0xFF);
+ *     card.command(SLEET_CARD_WRITE, 5, 0xA5); // card.open() is true, and card.cells()[5] is A5h
+ *
+ * A card is a value of some 1,200 bytes, and none of its calls throws. Its memory has the right lengths, so that 17 and 18 are never given.
+ * A card that is made of a struct which is not sound is there, and each `command` and `run` of it is refused with 5 until power is lost.
  */
 #ifndef SLEETANVIL_HPP
 #define SLEETANVIL_HPP
 
+#include <array>
 #include <cstddef>
 #include <utility>
 #include <vector>
@@ -456,6 +468,172 @@ inline uint16_t page_check(std::span<const uint8_t> bytes) noexcept
     return page_check(bytes.data(), bytes.size());
 }
 #endif
+
+/* What a card answers to a command. */
+struct reply {
+    uint8_t refusal; /* 0; or 5, for a card whose stage is not sound */
+    uint8_t length;  /* bytes answered: 1, or 2 for SLEET_CARD_READ_BIT; 0 where it is refused */
+    uint8_t byte;    /* the first: of a read the cell, otherwise FFh; FFh too where it is refused */
+    uint8_t bit;     /* the second: 01h where the byte is open, 00h where it is protected; FFh where there is none */
+
+    /* Whether the command was taken. One that is ignored is taken too: the card has no way to say so. */
+    explicit operator bool() const noexcept
+    {
+        return refusal == SLEET_DONE;
+    }
+};
+
+class card {
+public:
+    using cells_type = std::array<uint8_t, SLEET_CARD_CELLS>;
+    using bits_type = std::array<uint8_t, SLEET_CARD_BITS>;
+
+    /* A new card at power-up, all cells and protect bits FFh: nothing written, nothing protected, the code FFh FFh. */
+    card() noexcept : card_(sleet_card_power_up()), answer_(), cells_(), bits_()
+    {
+        cells_.fill(0xFF);
+        bits_.fill(0xFF);
+    }
+
+    /* A card at power-up whose memory outlived the loss of power. */
+    card(const cells_type &cells, const bits_type &bits) noexcept : card(sleet_card_power_up(), cells, bits)
+    {
+    }
+
+    /* A card as it is. */
+    card(const sleet_card &value, const cells_type &cells, const bits_type &bits) noexcept
+        : card_(value), answer_(), cells_(cells), bits_(bits)
+    {
+    }
+
+    /* ---- commands ---- */
+
+    /* A command by its code, its address and its data. Of the code six bits are sent, of the address ten. */
+    reply command(uint8_t code, uint16_t address, uint8_t data) noexcept
+    {
+        const unsigned first = (code & 0x3Fu) | (address >> 8 & 3u) << 6;
+
+        return bytes(static_cast<uint8_t>(first), static_cast<uint8_t>(address & 0xFF), data);
+    }
+
+    /* A command by its three bytes. */
+    reply bytes(uint8_t first, uint8_t second, uint8_t third) noexcept
+    {
+        uint8_t out[2] = {0xFF, 0xFF};
+
+        keep(sleet_card_command(card_, first, second, third, cells_.data(), cells_.size(), bits_.data(), bits_.size(), out, sizeof out));
+        return {answer_.refusal, static_cast<uint8_t>(answer_.written), out[0], out[1]};
+    }
+
+    /* Power lost and back, or the card pulled and put in again. */
+    void power() noexcept
+    {
+        card_ = sleet_card_power_up();
+    }
+
+    /* Runs a card log. Returns the refusal number; records(), used() and written() say how far it came. */
+    uint8_t run(const uint8_t *log, std::size_t log_length, uint8_t *out, std::size_t out_length) noexcept
+    {
+        keep(sleet_card_run(card_, sleet_device_given_(log), sleet_device_length_(log, log_length), cells_.data(), cells_.size(),
+                            bits_.data(), bits_.size(), sleet_device_lent_(out), sleet_device_length_(out, out_length)));
+        return answer_.refusal;
+    }
+
+#ifdef __cpp_lib_span
+    /* The same over spans. */
+    uint8_t run(std::span<const uint8_t> log, std::span<uint8_t> out) noexcept
+    {
+        return run(log.data(), log.size(), out.data(), out.size());
+    }
+#endif
+
+    /* ---- the answer of the last command or run ---- */
+
+    /* The refusal number. */
+    uint8_t refusal() const noexcept
+    {
+        return answer_.refusal;
+    }
+
+    /* Records done. */
+    std::size_t records() const noexcept
+    {
+        return answer_.records;
+    }
+
+    /* Log bytes used. */
+    std::size_t used() const noexcept
+    {
+        return answer_.used;
+    }
+
+    /* Output bytes written. */
+    std::size_t written() const noexcept
+    {
+        return answer_.written;
+    }
+
+    /* ---- questions, which change nothing ---- */
+
+    /* How far the code has come: SLEET_CARD_FRESH to SLEET_CARD_OPEN. */
+    uint8_t stage() const noexcept
+    {
+        return card_.stage;
+    }
+
+    /* Whether the code has passed. */
+    bool open() const noexcept
+    {
+        return card_.stage == SLEET_CARD_OPEN;
+    }
+
+    /* Whether the byte at an address is protected; false for an address above 1023. */
+    bool is_protected(std::size_t address) const noexcept
+    {
+        return address < SLEET_CARD_CELLS && (bits_[address / 8] >> address % 8 & 1) == 0;
+    }
+
+    /* ---- what the card is made of ---- */
+
+    /* The card beside its memory, as a plain struct. */
+    const sleet_card &value() const noexcept
+    {
+        return card_;
+    }
+
+    /* Cells and protect bits. They may be changed between calls, for what no reader does: a card as it comes from somewhere else. */
+    const cells_type &cells() const noexcept
+    {
+        return cells_;
+    }
+
+    cells_type &cells() noexcept
+    {
+        return cells_;
+    }
+
+    const bits_type &bits() const noexcept
+    {
+        return bits_;
+    }
+
+    bits_type &bits() noexcept
+    {
+        return bits_;
+    }
+
+private:
+    void keep(const sleet_card_answer &answer) noexcept
+    {
+        card_ = answer.card;
+        answer_ = answer;
+    }
+
+    sleet_card card_;
+    sleet_card_answer answer_;
+    cells_type cells_;
+    bits_type bits_;
+};
 
 } // namespace sleetanvil
 

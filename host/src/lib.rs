@@ -1,4 +1,4 @@
-//! Sleetanvil: a proved model of a serial NAND flash, for Rust.
+//! Sleetanvil: a proved model of a serial NAND flash, and of a memory card, for Rust.
 //!
 //! The model itself is the proved static library behind `sleetanvil.h`; this package is a safe
 //! wrapper over it and adds no behaviour.
@@ -8,6 +8,7 @@
 //! * [`Log`], [`Record`] and [`Records`] write and read bus logs.
 //! * [`Keeper`] says whose transfer is next where four cores share one device.
 //! * [`page`] makes and reads the parameter page, from which boot code sizes a part.
+//! * [`Card`] is a memory card that owns its memory; [`card`] has its commands.
 //!
 //! What the machine is and what each refusal means stands in the project's `docs/MACHINE.md`. The
 //! independent model against which the library is tested and measured, `paper`, is no part of this
@@ -27,6 +28,7 @@
 #![deny(unsafe_code)]
 #![warn(missing_docs)]
 
+pub mod card;
 #[doc(hidden)]
 pub mod case;
 mod convert;
@@ -46,6 +48,7 @@ mod state;
 #[doc(hidden)]
 pub mod vectors;
 
+pub use card::Card;
 pub use device::Device;
 pub use geometry::Geometry;
 pub use keeper::{Grant, Keeper};

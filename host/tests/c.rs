@@ -50,6 +50,13 @@ fn pages_from_c() {
 }
 
 #[test]
+fn cards_from_c() {
+    for names in C {
+        Compiler::c(names).run_test("card.c", &[]);
+    }
+}
+
+#[test]
 fn sleetanvil_device_h_from_c() {
     for names in C {
         Compiler::c(names).run_test("device.c", &[]);
@@ -60,7 +67,7 @@ fn sleetanvil_device_h_from_c() {
 fn sleetanvil_hpp_from_cpp() {
     for names in CPP {
         let compiler = Compiler::cpp(names);
-        for source in ["device.cpp", "keeper.cpp", "page.cpp"] {
+        for source in ["device.cpp", "keeper.cpp", "page.cpp", "card.cpp"] {
             compiler.run_test(source, &["-Wold-style-cast"]);
         }
     }
@@ -72,7 +79,7 @@ fn c_headers_from_cpp() {
     Compiler::cpp(CPP[0]).run_test("run_log.c", &[]);
     for names in CPP {
         let compiler = Compiler::cpp(names);
-        for source in ["run_log.c", "device.c", "keeper.c", "page.c"] {
+        for source in ["run_log.c", "device.c", "keeper.c", "page.c", "card.c"] {
             run(compiler.strict(source).arg("-fsyntax-only"));
         }
     }
@@ -91,11 +98,13 @@ fn programs_of_the_papers() {
         [
             "core 0: 00\ncore 1: FF\ncore 3: 01\ncore 0: 02\n",
             "copy 1: 2048 + 128 bytes a page, 64 pages a block, 512 blocks\n",
+            "before: FF\nafter: A5, protect bit 1\n",
         ]
     );
 }
 
-/// The programs that stand in a paper of the project, in its order, each as a file of its own.
+/// The programs that stand in a paper of the project, in its order, each as a file of its own. A
+/// program goes from its first header to the end of `main`.
 fn programs_of(paper: &str) -> Vec<String> {
     let project = Path::new(env!("CARGO_MANIFEST_DIR")).join("..");
     let text = fs::read_to_string(project.join(paper)).expect("a paper");
@@ -103,8 +112,11 @@ fn programs_of(paper: &str) -> Vec<String> {
     let mut programs = Vec::new();
     while let Some(first) = lines.find(|line| *line == "    #include <stdio.h>") {
         let mut program = vec![first];
-        while program.last() != Some(&"    }") {
-            program.push(lines.next().expect("the end of a program"));
+        let mut begun = false;
+        while !begun || program.last() != Some(&"    }") {
+            let line = lines.next().expect("the end of a program");
+            begun |= line == "    int main(void)";
+            program.push(line);
         }
         let plain = |line: &&str| String::from(line.strip_prefix("    ").unwrap_or(line));
         let plain: Vec<_> = program.iter().map(plain).collect();
@@ -128,6 +140,7 @@ fn the_archive_has_the_headers_functions() {
     let exported = index(&archive).expect("an index of names");
     assert_eq!(exported, declared);
     assert!(declared.contains("sleet_run") && declared.contains("sleet_page_make"));
+    assert!(declared.contains("sleet_card_run") && declared.contains("sleet_card_command"));
 }
 
 /// The name of the function that is declared at a place of the header: the line begins with its

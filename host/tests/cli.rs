@@ -1,5 +1,8 @@
-//! The command-line program from outside: its logs, images, trace, parameter pages and refusals.
+//! The command-line program from outside: its logs, images, trace, parameter pages, cards and
+//! refusals.
 
+#[path = "cli/card.rs"]
+mod card;
 mod support;
 
 use std::fs::{self, Permissions};
@@ -128,6 +131,8 @@ fn help_and_version() {
         &["replay", "--help"],
         &["page", "--help"],
         &["page", "-o", "a", "-h"],
+        &["card", "--help"],
+        &["card", "--trace", "a", "-h"],
     ] {
         let help = succeeds(&sleetanvil(args));
         for word in [
@@ -142,6 +147,9 @@ fn help_and_version() {
             "--read",
             "-o FILE",
             "SLEETIMG",
+            "options of card",
+            "20 nn nn nn",
+            "1152 bytes",
         ] {
             assert!(help.contains(word), "{word}");
         }
@@ -195,6 +203,17 @@ fn a_bad_command_line() {
         (&["page", "--trace", "-o", "a"], "no such option: --trace"),
         (&["page", "-o=a"], "no such option: -o=a"),
         (&["page", "--", "-o", "a"], "no such option: --"),
+        (&["card"], "no log"),
+        (&["card", "a", "b"], "more than one log"),
+        (&["card", "-", "-"], "more than one log"),
+        (&["card", "--image"], "--image needs a value"),
+        (&["card", "--save", "a", "--save=b", "c"], "twice"),
+        (&["card", "--image=a", "--image", "b", "c"], "twice"),
+        (&["card", "--trace=yes", "a"], "--trace takes no value"),
+        (&["card", "--part", "bench", "a"], "no such option: --part"),
+        (&["card", "--judge", "a"], "no such option: --judge"),
+        (&["card", "--out", "a", "b"], "no such option: --out"),
+        (&["card", "-x", "a"], "no such option: -x"),
     ] {
         fails(&sleetanvil(args), 2, message);
     }

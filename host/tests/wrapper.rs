@@ -495,6 +495,8 @@ fn refusals_have_numbers_and_words() {
         (Refusal::BadCore, 14, "a core above 3"),
         (Refusal::QueueFull, 15, "eight transfers wait in that queue"),
         (Refusal::AllEmpty, 16, "no transfer waits"),
+        (Refusal::BadCardCells, 17, "cells"),
+        (Refusal::BadCardBits, 18, "bits"),
         (Refusal::BadKeeper, 20, "the keeper is not sound"),
     ];
     let mut seen = HashSet::new();

@@ -416,7 +416,7 @@ static void check_records(void)
 /* Returns whether a refusal has this number. */
 static bool is_refusal(unsigned number)
 {
-    return (number >= SLEET_BAD_PART && number <= SLEET_SHORT_MEMORY) || (number >= SLEET_BAD_CORE && number <= SLEET_ALL_EMPTY) ||
+    return (number >= SLEET_BAD_PART && number <= SLEET_SHORT_MEMORY) || (number >= SLEET_BAD_CORE && number <= SLEET_BAD_CARD_BITS) ||
            number == SLEET_BAD_KEEPER;
 }
 

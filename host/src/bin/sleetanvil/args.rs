@@ -8,13 +8,14 @@ use std::path::PathBuf;
 use sleetanvil::Geometry;
 
 pub const HELP: &str = "\
-sleetanvil - replays bus logs on a proved model of a serial NAND flash, and
-makes and reads its parameter page
+sleetanvil - replays bus logs on a proved model of a serial NAND flash, makes
+and reads its parameter page, and runs the logs of a memory card
 
 usage:
   sleetanvil replay [options] LOG        replay a log file; - is standard input
   sleetanvil page [--part NAME] -o FILE  make the parameter page of a part
   sleetanvil page --read FILE            read one, and say what stands in it
+  sleetanvil card [options] LOG          run a card log; - is standard input
   sleetanvil --help                      print this text
   sleetanvil --version                   print the version
 
@@ -60,17 +61,31 @@ options of page; boot code sizes a part from this page:
                   bytes is not read. Fewer bytes, or no copy that holds, is
                   refused by number
 
-The last line that replay prints is `end`, the number of refusal and the records
-done; `end 0 8` is a log of 8 records read to its end. Records, and the bytes of
-a log, of the bytes on DO and of a page, are numbered from 0.
+options of card; the card is an FM4428:
+  --image FILE    the card to begin with, as it is put in: power has just come
+                  to it. Without an image it is a new one, all FFh: nothing is
+                  written, nothing is protected, the code is FFh FFh
+  --save FILE     where to put the card once the log has been read to its end,
+                  as it is pulled; may be the file of --image
+  --trace         print a line for each record: a command's three bytes, what
+                  they ask, the bytes answered, what became of it or why
+                  nothing changes, and what that does to the security code
+
+The last line that replay and card print is `end`, the number of refusal and the
+records done; `end 0 8` is a log of 8 records read to its end. Before it card
+prints how the log ended, the card, its counter and the protected bytes, a line
+for each. Records, and the bytes of a log, of the bytes on DO and of a page, are
+numbered from 0.
 
 A log is a row of records: a byte of kind, then a body.
   01      chip select falls           04 nn nn  array work, low byte first
   02 nn   a byte shifted in on DI     05 nn     WP# level, 0 or 1
   03      chip select rises           06        power lost and back
-It is read in pieces and may be larger than memory; but with --judge it is read
-whole, for the verdict is of the whole. Of a long log standard error tells how
-much is done, if it is a terminal.
+That is a log of the flash. A card log has two kinds:
+  20 nn nn nn  a command to the card  06        power lost and back
+A log is read in pieces and may be larger than memory; but with --judge it is
+read whole, for the verdict is of the whole. Of a long log standard error tells
+how much is done, if it is a terminal.
 
 An image file holds, with numbers low byte first:
   8 bytes  `SLEETIMG`
@@ -87,6 +102,10 @@ An image file holds, with numbers low byte first:
 Version 1 ends with the page counts; a replay of it begins at power-up. A file
 of version 2 is what is saved.
 
+The image of a card is 1152 bytes: the cells, 1024 bytes, then the protect bits,
+128 bytes, where bit a mod 8 of byte a / 8 belongs to address a. How far the
+code has come is not in it: a card that was pulled is closed.
+
 A file is saved under another name in the same folder and then renamed, so that
 it is whole or as it was. Links are followed, and a file that is replaced gives
 its mode to the new one; what is there and is not a file is refused before
@@ -94,8 +113,8 @@ anything is done. A log that is refused leaves it as it was.
 
 exit status:
   0    done
-  1    a bad file, a refused log (judged or not), output that differs, or a
-       parameter page that is refused
+  1    a bad file, a refused log (judged or not, of the flash or of a card),
+       output that differs, or a parameter page that is refused
   2    a bad command line
   3    with --judge: the log was read to its end, all is done, and the log is
        not orderly
@@ -110,6 +129,7 @@ pub enum Command {
     Version,
     Replay(Replay),
     Page(Page),
+    Card(Card),
 }
 
 /// A replay and its options.
@@ -132,6 +152,15 @@ pub struct Replay {
 pub enum Page {
     Make { part: Part, to: Destination },
     Read { from: Source },
+}
+
+/// A card log to be run, and its options.
+#[derive(Debug)]
+pub struct Card {
+    pub image: Option<PathBuf>,
+    pub save: Option<PathBuf>,
+    pub trace: bool,
+    pub log: Source,
 }
 
 /// A part by name.
@@ -209,6 +238,7 @@ pub fn parse(mut args: impl Iterator<Item = OsString>) -> Result<Command, String
         Some("--version" | "-V") => Ok(Command::Version),
         Some("replay") => parse_replay(args),
         Some("page") => parse_page(args),
+        Some("card") => parse_card(args),
         _ => Err(format!("no such command: {}", first.to_string_lossy())),
     }
 }
@@ -296,6 +326,44 @@ fn parse_page(mut args: impl Iterator<Item = OsString>) -> Result<Command, Strin
         (_, None, None) => return Err("no file given: page needs -o or --read".into()),
         (_, Some(_), Some(_)) => return Err("-o and --read do not go together".into()),
         (Some(_), None, Some(_)) => return Err("--part and --read do not go together".into()),
+    }))
+}
+
+fn parse_card(mut args: impl Iterator<Item = OsString>) -> Result<Command, String> {
+    let (mut image, mut save, mut trace, mut log) = (None, None, false, None);
+    let mut options_end = false;
+    while let Some(arg) = args.next() {
+        let (option, mut attached) = match options_end {
+            true => ("", None),
+            false => split(&arg),
+        };
+        let mut value = || {
+            let attached = attached.take().map(OsStr::to_os_string);
+            let value = attached.or_else(|| args.next());
+            value.ok_or(format!("{option} needs a value"))
+        };
+        match option {
+            "--" => options_end = true,
+            "--help" | "-h" => return Ok(Command::Help),
+            "--trace" => trace = true,
+            "--image" => set(&mut image, option, value()?.into())?,
+            "--save" => set(&mut save, option, value()?.into())?,
+            _ if option.starts_with('-') && option != "-" => {
+                return Err(format!("no such option: {option}"));
+            }
+            _ if log.is_some() => return Err("more than one log".into()),
+            "-" => log = Some(Source::Stdin),
+            _ => log = Some(Source::File(arg.clone().into())),
+        }
+        if attached.is_some() {
+            return Err(format!("{option} takes no value"));
+        }
+    }
+    Ok(Command::Card(Card {
+        image,
+        save,
+        trace,
+        log: log.ok_or("no log given")?,
     }))
 }
 

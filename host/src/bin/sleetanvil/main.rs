@@ -1,7 +1,9 @@
-//! The command-line program: replays bus logs on the proved model, and makes and reads parameter
-//! pages.
+//! The command-line program: replays bus logs on the proved model, makes and reads parameter pages,
+//! and runs the logs of a memory card.
 
 mod args;
+mod card;
+mod card_trace;
 mod image;
 mod instruction;
 mod judge;
@@ -66,6 +68,7 @@ fn main() -> ExitCode {
         }
         Ok(Command::Replay(replay)) => replay::run(&replay),
         Ok(Command::Page(page)) => page::run(&page).map(|()| Ended::Well),
+        Ok(Command::Card(card)) => card::run(&card).map(|()| Ended::Well),
         Err(message) => {
             tell(&format!("{message}\nTry `sleetanvil --help`."));
             return ExitCode::from(MISUSED);

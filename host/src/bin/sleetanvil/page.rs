@@ -10,6 +10,7 @@ use sleetanvil::Refusal;
 
 use crate::args::{Destination, Page, Part, Source};
 use crate::save::Target;
+use crate::words::{hex, numbered};
 use crate::{print, put, Failure};
 
 /// The three copies.
@@ -73,10 +74,6 @@ fn load(from: &Source) -> io::Result<Vec<u8>> {
     let mut bytes = Vec::with_capacity(BYTES);
     file.take(BYTES as u64).read_to_end(&mut bytes)?;
     Ok(bytes)
-}
-
-fn numbered(refusal: Refusal) -> String {
-    format!("{refusal} (refusal {})", refusal.number())
 }
 
 /// The bytes of a copy.
@@ -264,11 +261,6 @@ fn bits(number: u32) -> String {
 fn number(bytes: &[u8]) -> u32 {
     let digits = bytes.iter().rev();
     digits.fold(0, |number, &byte| number << 8 | u32::from(byte))
-}
-
-fn hex(bytes: &[u8]) -> String {
-    let bytes: Vec<_> = bytes.iter().map(|byte| format!("{byte:02X}h")).collect();
-    bytes.join(" ")
 }
 
 fn plain_hex(bytes: &[u8]) -> String {

@@ -14,6 +14,7 @@ use crate::pieces::Pieces;
 use crate::progress::Progress;
 use crate::save::{self, Target};
 use crate::trace::Tracer;
+use crate::words::{hex, numbered};
 use crate::{print, Failure};
 
 /// How a replay ended that was not refused.
@@ -24,20 +25,20 @@ pub enum Ended {
 }
 
 /// What was done of a piece of a log.
-struct Done {
-    records: usize,
-    used: usize,
-    stop: Option<Stop>,
+pub struct Done {
+    pub records: usize,
+    pub used: usize,
+    pub stop: Option<Stop>,
 }
 
 /// How a log ended.
-struct End {
-    records: usize,
-    stop: Option<Stop>,
+pub struct End {
+    pub records: usize,
+    pub stop: Option<Stop>,
 }
 
 /// Why it stopped before its end.
-enum Stop {
+pub enum Stop {
     Refused(Refusal),
     /// The output is not the one expected.
     Differs(String),
@@ -67,7 +68,7 @@ pub fn run(replay: &Replay) -> Result<Ended, Failure> {
     let (device, done) = if replay.trace {
         let out = io::BufWriter::new(io::stdout().lock());
         let mut tracer = Tracer::new(device, replay.bytes, out);
-        let done = in_pieces(replay, &mut pieces, &mut progress, |log| {
+        let done = in_pieces(&replay.log, &mut pieces, &mut progress, |log| {
             traced(&mut tracer, log, &mut output)
         });
         progress.end();
@@ -76,7 +77,7 @@ pub fn run(replay: &Replay) -> Result<Ended, Failure> {
         (ended.map_err(Failure::of_stdout)?, done)
     } else {
         let (mut device, mut room) = (device, Vec::new());
-        let done = in_pieces(replay, &mut pieces, &mut progress, |log| {
+        let done = in_pieces(&replay.log, &mut pieces, &mut progress, |log| {
             plain(&mut device, log, &mut room, &mut output)
         });
         progress.end();
@@ -94,9 +95,7 @@ pub fn run(replay: &Replay) -> Result<Ended, Failure> {
         Some(Stop::Refused(refusal)) => {
             // The refusal counts more than a reader who is gone.
             let _ = end(refusal.number());
-            let (place, record) = (pieces.used(), done.records);
-            let message = refused(refusal, pieces.bytes());
-            Some(format!("byte {place}, record {record}: {message}"))
+            Some(refused(refusal, done.records, &pieces))
         }
         None => output.left()?,
     };
@@ -158,7 +157,7 @@ fn begin(replay: &Replay) -> Result<Device, String> {
 }
 
 /// The log, and how long it is if that is known.
-fn open_log(source: &Source) -> Result<(Box<dyn Read>, Option<u64>), String> {
+pub fn open_log(source: &Source) -> Result<(Box<dyn Read>, Option<u64>), String> {
     match source {
         Source::Stdin => Ok((Box::new(io::stdin()), None)),
         Source::File(path) => {
@@ -170,8 +169,8 @@ fn open_log(source: &Source) -> Result<(Box<dyn Read>, Option<u64>), String> {
 }
 
 /// Do a log piece by piece. What is left of it begins at the record that stopped it.
-fn in_pieces<R: Read>(
-    replay: &Replay,
+pub fn in_pieces<R: Read>(
+    source: &Source,
     pieces: &mut Pieces<R>,
     progress: &mut Progress,
     mut piece: impl FnMut(&[u8]) -> Result<Done, Failure>,
@@ -180,7 +179,7 @@ fn in_pieces<R: Read>(
     loop {
         pieces
             .more()
-            .map_err(|error| format!("{}: {error}", replay.log))?;
+            .map_err(|error| format!("{source}: {error}"))?;
         progress.at(pieces.used());
         let done = piece(pieces.bytes())?;
         pieces.done(done.used);
@@ -263,16 +262,15 @@ fn traced<W: io::Write>(
     })
 }
 
-/// A refusal in words, with the bytes at fault. What is left of the log begins at its record.
-fn refused(refusal: Refusal, left: &[u8]) -> String {
-    let fault = match (refusal, left) {
+/// A refusal in words, with its place and the bytes at fault. What is left of the log begins at its
+/// record.
+pub fn refused<R: Read>(refusal: Refusal, record: usize, pieces: &Pieces<R>) -> String {
+    let fault = match (refusal, pieces.bytes()) {
         (Refusal::BadKind, [kind, ..]) => format!(": the byte is {kind:02X}h"),
         (Refusal::BadLevel, [_, level, ..]) => format!(": the level is {level:02X}h"),
-        (Refusal::ShortBody, [kind]) => format!(": nothing comes behind {kind:02X}h"),
-        (Refusal::ShortBody, [kind, byte, ..]) => {
-            format!(": nothing comes behind {kind:02X}h {byte:02X}h")
-        }
+        (Refusal::ShortBody, left) => format!(": nothing comes behind {}", hex(left)),
         _ => String::new(),
     };
-    format!("{refusal} (refusal {}){fault}", refusal.number())
+    let (place, refusal) = (pieces.used(), numbered(refusal));
+    format!("byte {place}, record {record}: {refusal}{fault}")
 }
