@@ -1,9 +1,8 @@
 //! The card slot: the proved library against the independent model, on every byte of the lent
 //! memory; what the request promises, tried on both; and that such tests can fail.
 //!
-//! Seed and number of cases are those of `differential.rs`; a quarter of that number is enough
-//! here. A case on which two subjects differ is shrunk and printed with all that is needed to run
-//! it again.
+//! Seed and number of cases are those of `differential.rs`; half of that number is enough here. A
+//! case on which two subjects differ is shrunk and printed with all that is needed to run it again.
 
 mod support;
 
@@ -17,7 +16,7 @@ use support::hunt::{cases, seed};
 #[test]
 fn calls_agree() {
     let seed = seed();
-    if let Some((number, case)) = hunt(&library, &model, seed, cases() / 4) {
+    if let Some((number, case)) = hunt(&library, &model, seed, cases() / 2) {
         let case = shrink(case, &library, &model);
         let difference = difference(&case, &library, &model).unwrap_or_default();
         panic!("seed {seed}, case {number}: {difference}\n{case}");
@@ -1667,7 +1666,7 @@ mod wrong {
 mod completeness {
     use super::*;
 
-    const CASES: u64 = 4000;
+    const CASES: u64 = 12_000;
 
     /// Each refusal, alone and before others, and calls of both kinds.
     #[test]

@@ -215,37 +215,30 @@ pub fn shrink(mut case: Case, left: Subject, right: Subject) -> Case {
             *case = smaller;
         }
     };
-    if let Call::Run(log) = case.call.clone() {
-        for place in (0..records(&log).len()).rev() {
-            attempt(&mut case, &|case| {
-                let mut rest = case.call.log();
-                let all = records(&rest);
-                let kept = all.iter().enumerate().filter(|(other, _)| *other != place);
-                rest = kept
-                    .flat_map(|(_, record)| record.iter().copied())
-                    .collect();
-                case.call = Call::Run(rest);
-            });
-        }
+    for place in (0..records(&case.call.log()).len()).rev() {
+        attempt(&mut case, &|case| {
+            if let Call::Run(log) = &mut case.call {
+                let mut kept = records(log);
+                kept.remove(place);
+                *log = kept.concat();
+            }
+        });
     }
     attempt(&mut case, &|case| case.stage = 0);
-    let [cells, bits, out] = case.memory.named().map(|(_, bytes)| bytes.len());
     attempt(&mut case, &|case| case.memory.out.truncate(2));
-    for (buffer, length) in [cells, bits, out].into_iter().enumerate() {
-        let mut stretch = length;
-        while stretch > 0 {
-            for at in (0..length).step_by(stretch) {
+    let [cells, bits, out] = case.memory.named().map(|(_, bytes)| bytes.len());
+    let plain = Memory::plain(cells, bits, out);
+    for (buffer, (_, plain)) in plain.named().into_iter().enumerate() {
+        let mut length = plain.len();
+        while length > 0 {
+            for at in (0..plain.len()).step_by(length) {
+                let stretch = at..plain.len().min(at + length);
                 attempt(&mut case, &|case| {
-                    let plain = Memory::plain(cells, bits, case.memory.out.len());
-                    let (_, from) = plain.named()[buffer];
-                    let [.., (_, to)] = &mut case.memory.named_mut()[..=buffer] else {
-                        return;
-                    };
-                    let places = at.min(to.len())..to.len().min(at + stretch);
-                    to[places.clone()].copy_from_slice(&from[places]);
+                    let (_, bytes) = &mut case.memory.named_mut()[buffer];
+                    bytes[stretch.clone()].copy_from_slice(&plain[stretch.clone()]);
                 });
             }
-            stretch /= 2;
+            length /= 2;
         }
     }
     case
@@ -301,7 +294,7 @@ impl Generator {
         }
     }
 
-    /// Any case: one in eight is refused at once.
+    /// Any case: about one in ten is refused at once.
     pub fn case(&mut self) -> Case {
         let mut case = self.sound_case();
         if self.rng.percent(15) {
