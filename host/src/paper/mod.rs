@@ -1,5 +1,6 @@
 //! An independent model of document 01, written from the paper and the project's decisions alone; and
-//! of document 02 what is no part of the device: the parameter page and the keeper of the bus.
+//! of document 02 what is no part of the device: the parameter page, the keeper of the bus and the
+//! card.
 //!
 //! It shares no code and no type with the proved library. The tests compare the two on random
 //! contents of all their inputs, sound and not, and the benchmark takes this model as what a good
@@ -26,8 +27,10 @@
 //! | `calls` | what a simulator calls beside a log: transfers, long work, the next byte, the units left |
 //! | `page` | the parameter page: its check, its maker, the reader of its three copies |
 //! | `keeper` | four cores at one chip select: queues of waiting transfers, and whose turn it is |
+//! | `card` | the card slot: the card's commands, its security code, and a card log run |
 
 mod calls;
+pub mod card;
 mod instructions;
 mod keeper;
 mod log;

@@ -1,10 +1,11 @@
-//! What the tests share: the library on a case and the comparison of outcomes, calls on a keeper and
-//! of the parameter page, a random number generator, a generator of cases, the hunt with its report,
-//! and how a program is started.
+//! What the tests share: the library on a case and the comparison of outcomes, calls on a keeper, on a
+//! card and of the parameter page, a random number generator, a generator of cases, the hunt with its
+//! report, and how a program is started.
 
 // Each test program uses a part of it.
 #![allow(dead_code)]
 
+pub mod carding;
 pub mod compare;
 pub mod generate;
 pub mod hunt;

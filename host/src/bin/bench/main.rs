@@ -6,11 +6,12 @@
 //! best round counts: what else the machine does can only make a round longer. The last columns are
 //! speeds: above 1 the library is the faster. Work of n units is given less what the same call costs
 //! with one unit, so that the units are compared and not the call; what a call costs has rows of its
-//! own, with the paper's model behind the same structs by value; and so has the parameter page's check,
-//! bit by bit in the paper's model and by a table in the place of the naive one. Run it with
-//! `cargo run --release --bin bench`.
+//! own, with the paper's model behind the same structs by value; so has the parameter page's check,
+//! bit by bit in the paper's model and by a table in the place of the naive one; and so has a log of
+//! the card. Run it with `cargo run --release --bin bench`.
 
 mod calls;
+mod cards;
 mod checks;
 mod naive;
 
@@ -40,6 +41,7 @@ fn main() {
     compare(&geometry, tasks(&geometry));
     calls::compare(&geometry, &mut buffers(&geometry));
     checks::compare(&mut buffers(&geometry));
+    cards::compare(&mut buffers(&Geometry::bench()));
     println!("| on the bench part | | | | | | | |");
     compare(&Geometry::bench(), vec![nothing()]);
 }
