@@ -9,7 +9,7 @@ use Rattle.part.proofs.Choice.{cond-keep}
 use Rattle.cardlog.specs.declared.Record.{Record}
 use Rattle.cardlog.specs.declared.Record.the-variants.{Sent, Power}
 use Rattle.card.specs.Table.{addressOf}
-use Rattle.card.specs.Card.{Card, isOpen, cellAt, shut, counts, writable, cellsAfter, bitsAfter, commanded, sent, step, run}
+use Rattle.card.specs.Card.{Card, isOpen, cellAt, shut, spends, writable, cellsAfter, bitsAfter, commanded, sent, step, run}
 use Rattle.card.specs.declared.Command.{Command}
 use Rattle.card.specs.declared.Command.the-variants.{WriteWithBit, Write, Protect, ReadWithBit, Read, Count, Compare, Ignored}
 
@@ -23,7 +23,7 @@ Long l x = length x ≡ length l
 cells-long : (c : Card) (k : Command) (a d : ℕ) → Long (c .cells) (cellsAfter c k a d)
 cells-long c WriteWithBit a d = cond-keep (Long (c .cells)) (writable (c .stage) (c .bits) a) (λ e. simp length-set) (λ e. refl)
 cells-long c Write a d = cond-keep (Long (c .cells)) (writable (c .stage) (c .bits) a) (λ e. simp length-set) (λ e. refl)
-cells-long c Count a d = cond-keep (Long (c .cells)) (counts (c .cells) (c .bits) a d) (λ e. simp length-set) (λ e. refl)
+cells-long c Count a d = cond-keep (Long (c .cells)) (spends (c .cells) (c .bits) a d) (λ e. simp length-set) (λ e. refl)
 cells-long c Protect a d = refl
 cells-long c ReadWithBit a d = refl
 cells-long c Read a d = refl

@@ -55,9 +55,9 @@ shut bits a = set bits (a / 8) (getD bits (a / 8) 0 - bitAt bits a * 2 ^ (a % 8)
 unfoldable pub clearsOne : ℕ → ℕ → Bool
 clearsOne old mask = eqb (ones old) (ones (bitAnd old mask) + 1)
 
--- it does something
-abbrev pub counts : List ℕ → List ℕ → ℕ → ℕ → Bool
-counts cells bits a mask = free bits a && clearsOne (cellAt cells a) mask
+-- it spends a bit: the counter may change, and the mask clears exactly one
+abbrev pub spends : List ℕ → List ℕ → ℕ → ℕ → Bool
+spends cells bits a mask = free bits a && clearsOne (cellAt cells a) mask
 
 -- ---- what a command changes, by its address and its third byte
 
@@ -69,7 +69,7 @@ writable s bits a = isOpen s && free bits a
 abbrev pub cellsAfter : Card → Command → ℕ → ℕ → List ℕ
 cellsAfter c WriteWithBit a d = if writable (c .stage) (c .bits) a then set (c .cells) a d else c .cells
 cellsAfter c Write a d = if writable (c .stage) (c .bits) a then set (c .cells) a d else c .cells
-cellsAfter c Count a d = if counts (c .cells) (c .bits) a d then set (c .cells) a (bitAnd (cellAt (c .cells) a) d) else c .cells
+cellsAfter c Count a d = if spends (c .cells) (c .bits) a d then set (c .cells) a (bitAnd (cellAt (c .cells) a) d) else c .cells
 cellsAfter c Protect a d = c .cells
 cellsAfter c ReadWithBit a d = c .cells
 cellsAfter c Read a d = c .cells
@@ -107,7 +107,7 @@ compared Open a right = Open
 
 -- how far the code has been given then
 abbrev pub stageAfter : Card → Command → ℕ → ℕ → Stage
-stageAfter c Count a d = counted (c .stage) (counts (c .cells) (c .bits) a d)
+stageAfter c Count a d = counted (c .stage) (spends (c .cells) (c .bits) a d)
 stageAfter c Compare a d = compared (c .stage) a (eqb (cellAt (c .cells) a) d)
 stageAfter c WriteWithBit a d = anew (c .stage)
 stageAfter c Write a d = anew (c .stage)

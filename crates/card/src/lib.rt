@@ -8,7 +8,7 @@ ghost use lib.ListN.{length, set};
 ghost use Rattle.part.specs.Choice.{if_then_else_};
 ghost use Rattle.buslog.specs.Write.{over};
 ghost use Rattle.card.specs.Table.{addressOf, commandOf};
-ghost use Rattle.card.specs.Card.{card, isOpen, cellAt, bitAt, free, shut, clearsOne, counts, writable, anew, counted, compared, commanded, told, answerOf, answerLength, sent};
+ghost use Rattle.card.specs.Card.{card, isOpen, cellAt, bitAt, shut, clearsOne, spends, writable, anew, counted, compared, commanded, told, answerOf, answerLength, sent};
 
 // How far the security code has been given: no step taken, a counter bit newly cleared, the first byte compared right too, passed.
 pub enum Stage {
@@ -255,9 +255,9 @@ fn protect(stage: Stage, a: usize, d: u8, cells: &[u8], bits: &mut [u8])
 fn count(a: usize, mask: u8, cells: &mut [u8], bits: &[u8]) -> bool
     requires { ⌜ (a < length (now cells)) × (a / 8 < length (now bits)) ⌝ }
     ensures { λ r.
-        ⌜ (r ≡ counts (now (cells .entry)) (now (bits .entry)) a mask)
+        ⌜ (r ≡ spends (now (cells .entry)) (now (bits .entry)) a mask)
         × (now (cells .exit)
-        ≡ (if counts (now (cells .entry)) (now (bits .entry)) a mask
+        ≡ (if spends (now (cells .entry)) (now (bits .entry)) a mask
         then set (now (cells .entry)) a (bitAnd (cellAt (now (cells .entry)) a) mask)
         else now (cells .entry))) ⌝ }
 {

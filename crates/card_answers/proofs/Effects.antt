@@ -4,7 +4,6 @@ use mathlib.Core.Path.{_≡_, refl, sym, ap, _∙_}
 use Prim.Native.Nat.{ℕ, _≤_}
 use native.Mathlib.Omega.{arith}
 use lib.Dec.{ltb}
-use lib.ListN.{take}
 use Rattle.part.proofs.Choice.{cond-keep}
 use Rattle.cardlog.specs.Read.{parse}
 use Rattle.cardlog.specs.declared.Why.{Why}
@@ -17,7 +16,7 @@ use Rattle.slot.specs.declared.Refusal.{Refusal}
 use Rattle.slot.specs.declared.Refusal.the-variants.{Done, BadKind, ShortBody, NoRoom}
 use Rattle.slot.proofs.Rooms.{run-done}
 use Rattle.card_answers.specs.Table.{Stops, Full, Line, read-to-its-end, cells-wrong, bits-wrong, kind-not-in-table, ends-inside-body, no-room-left}
-use Rattle.card_answers.specs.Promises.{NothingDone, FoldOfStep, Effects}
+use Rattle.card_answers.specs.Promises.{NothingDone, Effects}
 use Rattle.card_answers.proofs.Logs.{ends-number}
 use Rattle.card_answers.proofs.Lines.{is-stop, is-full, run-keep, exactly}
 

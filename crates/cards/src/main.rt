@@ -129,7 +129,7 @@ fn with_length(given: Given, letter: u8, n: usize) -> Given {
 }
 
 // An answer, and the bytes written.
-fn told(s: &[u8], a: Answer, out: &[u8]) {
+fn says(s: &[u8], a: Answer, out: &[u8]) {
     let stage = a.stage;
     let why = a.refusal;
     hex(s, slot::number(why) as usize, 2);
@@ -155,7 +155,7 @@ fn runs(given: Given, log: &[u8], cells: &mut [u8], bits: &mut [u8], out: &mut [
         &mut bits[0..b],
         &mut out[0..o],
     );
-    told(b" r", a, out);
+    says(b" r", a, out);
     let then = a.stage;
     goes_on(at_stage(given, then))
 }
@@ -178,7 +178,7 @@ fn commands(given: Given, n: u32, cells: &mut [u8], bits: &mut [u8], out: &mut [
         &mut bits[0..b],
         &mut out[0..o],
     );
-    told(b" c", a, out);
+    says(b" c", a, out);
     let then = a.stage;
     goes_on(at_stage(given, then))
 }

@@ -17,7 +17,7 @@ use Rattle.buslog.specs.declared.Record.the-variants.{Select, Shift, Deselect, 
 use Rattle.buslog.specs.declared.Next.{Next}
 use Rattle.buslog.specs.declared.Next.the-variants.{Found, Stop}
 use Rattle.buslog.specs.declared.Why.{Why}
-use Rattle.buslog.proofs.Logs.{bodyOf, drop-bytes, found-bytes, front-body, front-found, length-written}
+use Rattle.buslog.proofs.Logs.{bodyOf, drop-bytes, found-bytes, front-body, length-written}
 use Rattle.buslog.proofs.RoundTrip.{over-behind, found-front, stop-front}
 use Rattle.device.specs.Machine.{Machine, machine}
 use Rattle.device.specs.Work.{Array}

@@ -7,3 +7,4 @@ pub mod Counter
 pub mod Passes
 pub mod Tries
 pub mod Hidden
+pub mod Holds

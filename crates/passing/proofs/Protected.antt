@@ -14,7 +14,7 @@ use Rattle.part.proofs.Choice.{cond-keep}
 use Rattle.cardlog.specs.declared.Record.{Record}
 use Rattle.cardlog.specs.declared.Record.the-variants.{Sent, Power}
 use Rattle.card.specs.Table.{addressOf}
-use Rattle.card.specs.Card.{Card, isOpen, cellAt, bitAt, free, shut, clearsOne, counts, writable, commanded, sent, step, run}
+use Rattle.card.specs.Card.{Card, isOpen, cellAt, bitAt, free, shut, clearsOne, spends, writable, commanded, sent, step, run}
 use Rattle.card.specs.declared.Command.{Command}
 use Rattle.card.specs.declared.Command.the-variants.{WriteWithBit, Write, Protect, ReadWithBit, Read, Count, Compare, Ignored}
 use Rattle.slot.proofs.Rooms.{run-done}
@@ -51,14 +51,14 @@ module _ (a : ℕ) where
     may-write : (b : ℕ) → writable (c .stage) (c .bits) b ≡ true → free (c .bits) b ≡ true
     may-write b = both-r (isOpen (c .stage)) (free (c .bits) b)
 
-    may-count : (b d : ℕ) → counts (c .cells) (c .bits) b d ≡ true → free (c .bits) b ≡ true
+    may-count : (b d : ℕ) → spends (c .cells) (c .bits) b d ≡ true → free (c .bits) b ≡ true
     may-count b d = both-l (free (c .bits) b) (clearsOne (cellAt (c .cells) b) d)
 
     keeps-command : (k : Command) (b d : ℕ) → Keeps c (commanded c k b d)
     unfolding commanded
     keeps-command WriteWithBit b d = (put-in (writable (c .stage) (c .bits) b) b d (may-write b), made-zero (writable (c .stage) (c .bits) b) b)
     keeps-command Write b d = (put-in (writable (c .stage) (c .bits) b) b d (may-write b), h)
-    keeps-command Count b d = (put-in (counts (c .cells) (c .bits) b d) b (bitAnd (cellAt (c .cells) b) d) (may-count b d), h)
+    keeps-command Count b d = (put-in (spends (c .cells) (c .bits) b d) b (bitAnd (cellAt (c .cells) b) d) (may-count b d), h)
     keeps-command Protect b d = (refl, made-zero (isOpen (c .stage) && eqb (cellAt (c .cells) b) d) b)
     keeps-command ReadWithBit b d = (refl, h)
     keeps-command Read b d = (refl, h)

@@ -11,7 +11,7 @@ use Rattle.part.proofs.Choice.{cond-yes, cond-keep, T-true, true-T, and-l, and-
 use Rattle.cardlog.specs.declared.Record.{Record}
 use Rattle.cardlog.specs.declared.Record.the-variants.{Sent, Power}
 use Rattle.card.specs.Table.{addressOf, word, commandOf, counter, code₁, code₂}
-use Rattle.card.specs.Card.{Card, card, isOpen, cellAt, free, clearsOne, counts, anew, counted, compared, stageAfter, commanded, sent, step}
+use Rattle.card.specs.Card.{Card, card, isOpen, cellAt, free, clearsOne, spends, anew, counted, compared, stageAfter, commanded, sent, step}
 use Rattle.card.specs.declared.Command.{Command}
 use Rattle.card.specs.declared.Command.the-variants.{WriteWithBit, Write, Protect, ReadWithBit, Read, Count, Compare, Ignored}
 use Rattle.card.specs.declared.Stage.{Stage}
@@ -70,11 +70,11 @@ pub data Leaves (c : Card) (mask : ℕ) (next : Card) : Bool → Type 0 where
       next .cells ≡ set (c .cells) counter (bitAnd (cellAt (c .cells) counter) mask) → next .bits ≡ c .bits → Leaves c mask next true
 
 -- the counter command at the counter
-leaves-count : (c : Card) (d : ℕ) → Leaves c d (commanded c Count counter d) (counts (c .cells) (c .bits) counter d)
+leaves-count : (c : Card) (d : ℕ) → Leaves c d (commanded c Count counter d) (spends (c .cells) (c .bits) counter d)
 unfolding commanded
-leaves-count c d = go (counts (c .cells) (c .bits) counter d) refl
+leaves-count c d = go (spends (c .cells) (c .bits) counter d) refl
   where
-    go : (b : Bool) → counts (c .cells) (c .bits) counter d ≡ b →
+    go : (b : Bool) → spends (c .cells) (c .bits) counter d ≡ b →
         Leaves c d (card (counted (c .stage) b) (if b then set (c .cells) counter (bitAnd (cellAt (c .cells) counter) d) else c .cells) (c .bits)) b
     go true e =
         let f : Bool = free (c .bits) counter in
@@ -141,7 +141,7 @@ went-compare Open a r = stayed-open refl
 
 -- any command
 went-command : (c : Card) (k : Command) (a d : ℕ) → Went (c .stage) (clearing k c a d) (right k c a d code₁) (right k c a d code₂) (stageAfter c k a d)
-went-command c Count a d = went-count (c .stage) (counts (c .cells) (c .bits) a d)
+went-command c Count a d = went-count (c .stage) (spends (c .cells) (c .bits) a d)
 went-command c Compare a d = went-compare (c .stage) a (eqb (cellAt (c .cells) a) d)
 went-command c WriteWithBit a d = went-anew (c .stage) false false false
 went-command c Write a d = went-anew (c .stage) false false false

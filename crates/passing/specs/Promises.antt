@@ -4,7 +4,7 @@ use mathlib.Core.Bool.{Bool, true, false, _&&_}
 use mathlib.Core.List.{List, [], _∷_}
 use mathlib.Core.Logic.{_↔_, _⊎_}
 use mathlib.Core.Path.{_≡_}
-use Prim.Native.Nat.{ℕ, zero, suc, _+_, _/_, _%_, _^_, _≤_, _<_}
+use Prim.Native.Nat.{ℕ, suc, _+_, _/_, _%_, _^_, _≤_, _<_}
 use lib.Bits.{bitAnd}
 use lib.Count.{ones}
 use lib.Dec.{eqb}
@@ -14,7 +14,7 @@ use Rattle.cardlog.specs.Read.{parse}
 use Rattle.cardlog.specs.declared.Record.{Record}
 use Rattle.cardlog.specs.declared.Record.the-variants.{Sent, Power}
 use Rattle.card.specs.Table.{addressOf, counter, code₁, code₂}
-use Rattle.card.specs.Card.{Card, isOpen, cellAt, bitAt, shut, clearsOne, counts, sent, step, run}
+use Rattle.card.specs.Card.{Card, card, isOpen, cellAt, bitAt, shut, clearsOne, spends, sent, step, run}
 use Rattle.card.specs.declared.Command.{Command}
 use Rattle.card.specs.declared.Command.the-variants.{WriteWithBit, Write, Protect, ReadWithBit, Read, Count, Compare, Ignored}
 use Rattle.card.specs.declared.Stage.the-variants.{Fresh, Counted, Half, Open}
@@ -89,7 +89,7 @@ CodeHidden =
 
 -- a counter command that clears a bit
 abbrev pub clearing : Command → Card → ℕ → ℕ → Bool
-clearing Count c a d = counts (c .cells) (c .bits) a d
+clearing Count c a d = spends (c .cells) (c .bits) a d
 clearing WriteWithBit c a d = false
 clearing Write c a d = false
 clearing Protect c a d = false
@@ -136,6 +136,33 @@ pub data PassedBy (c : Card) (es : List Record) : ℕ → Type 0 where
 -- a card that is not open as record i begins is open after it exactly when the three steps end with it
 abbrev pub PassesBy : Type 0
 PassesBy = (c : Card) (es : List Record) (i : ℕ) → isOpen (after c es i .stage) ≡ false → isOpen (after c es (suc i) .stage) ≡ true ↔ PassedBy c es i
+
+-- in bytes: the counter command with a mask that clears a bit, and the two compares with what the code is
+abbrev pub CodeOpens : Type 0
+CodeOpens =
+    (c : Card) (mask : ℕ) → spends (c .cells) (c .bits) counter mask ≡ true →
+    run c (Sent 0xF2 0xFD mask ∷ Sent 0xCD 0xFE (cellAt (c .cells) code₁) ∷ Sent 0xCD 0xFF (cellAt (c .cells) code₂) ∷ []) .stage ≡ Open
+
+-- ---- "it holds until power is lost, which also undoes steps already taken; while it holds the counter may be written FFh"
+
+-- no power is lost in some records
+unfoldable pub unbroken : List Record → Bool
+unbroken [] = true
+unbroken (Sent first second third ∷ es) = unbroken es
+unbroken (Power ∷ es) = false
+
+abbrev pub HoldsOn : Type 0
+HoldsOn = (c : Card) (es : List Record) → c .stage ≡ Open → unbroken es ≡ true → run c es .stage ≡ Open
+
+-- cells and bits outlive it
+abbrev pub PowerUndoes : Type 0
+PowerUndoes = (c : Card) → step c Power ≡ card Fresh (c .cells) (c .bits)
+
+-- in bytes: the write without protect bit at 1021, of a counter that may change
+abbrev pub CounterRestored : Type 0
+CounterRestored =
+    (c : Card) → counter < length (c .cells) → c .stage ≡ Open → bitAt (c .bits) counter ≡ 1 →
+    cellAt (step c (Sent 0xF3 0xFD 0xFF) .cells) counter ≡ 0xFF
 
 -- ---- how often it can be tried
 

@@ -6,14 +6,10 @@ use lib.Bits.{bitAnd, and-le-l}
 use Rattle.card.specs.Card.{clearsOne}
 use Rattle.card.proofs.clears_one.Statement.{statement}
 use Rattle.card.proofs.clears_one.Tie as tie
-use Rattle.card.proofs.clears_one.Reads as reads
-use Rattle.card.proofs.clears_one.Lts as lts
 
--- src/lib.rt:193:28
 add-result : tie.Need-add-result
 add-result c = record { fits = omega (arith, ones-le 8 (bitAnd (c .args .old) (c .args .mask)) (omega (arith, and-le-l (c .args .old) (c .args .mask)))) }
 
--- src/lib.rt:190:1
 returns : tie.Need-returns
 unfolding clearsOne
 returns c = refl

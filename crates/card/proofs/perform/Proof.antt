@@ -1,170 +1,124 @@
 -- One command done: each of the seven, and what is none of them.
-use Rattle.card.specs.Card.{commanded}
 use borrow.Author.Needs.{needs}
+use Rattle.card.specs.Card.{commanded}
 use Rattle.card.proofs.perform.Statement.{statement}
 use Rattle.card.proofs.perform.Tie as tie
-use Rattle.card.proofs.perform.Reads as reads
-use Rattle.card.proofs.perform.Lts as lts
-use Rattle.card.proofs.Stage.anew.Reads as anew-reads
-use Rattle.card.proofs.Stage.compared.Reads as compared-reads
-use Rattle.card.proofs.Stage.counted.Reads as counted-reads
-use Rattle.card.proofs.count.Reads as count-reads
-use Rattle.card.proofs.protect.Reads as protect-reads
-use Rattle.card.proofs.write.Reads as write-reads
-use Rattle.card.proofs.write_with_bit.Reads as write-with-bit-reads
 
--- src/lib.rt:283:41
 enum-told : tie.Need-enum-told
 enum-told c = search needs
 
--- src/lib.rt:283:13
 write-with-bit-requires : tie.Need-write-with-bit-requires
 write-with-bit-requires c κs = search needs
 
--- src/lib.rt:284:13
 anew-requires : tie.Need-anew-requires
 anew-requires c κs = search needs
 
--- src/lib.rt:287:32
 enum-told-2 : tie.Need-enum-told-2
 enum-told-2 c = search needs
 
--- src/lib.rt:287:13
 write-requires : tie.Need-write-requires
 write-requires c κs = search needs
 
--- src/lib.rt:288:13
 anew-requires-2 : tie.Need-anew-requires-2
 anew-requires-2 c κs = search needs
 
--- src/lib.rt:291:34
 enum-told-3 : tie.Need-enum-told-3
 enum-told-3 c = search needs
 
--- src/lib.rt:291:13
 protect-requires : tie.Need-protect-requires
 protect-requires c κs = search needs
 
--- src/lib.rt:292:13
 anew-requires-3 : tie.Need-anew-requires-3
 anew-requires-3 c κs = search needs
 
--- src/lib.rt:294:33
 enum-told-4 : tie.Need-enum-told-4
 enum-told-4 c = search needs
 
--- src/lib.rt:294:33
 anew-requires-4 : tie.Need-anew-requires-4
 anew-requires-4 c κs = search needs
 
--- src/lib.rt:295:26
 enum-told-5 : tie.Need-enum-told-5
 enum-told-5 c = search needs
 
--- src/lib.rt:295:26
 anew-requires-5 : tie.Need-anew-requires-5
 anew-requires-5 c κs = search needs
 
--- src/lib.rt:297:39
 enum-told-6 : tie.Need-enum-told-6
 enum-told-6 c = search needs
 
--- src/lib.rt:297:17
 count-requires : tie.Need-count-requires
 count-requires c κs = search needs
 
--- src/lib.rt:298:13
 counted-requires : tie.Need-counted-requires
 counted-requires c κs = search needs
 
--- src/lib.rt:300:47
 enum-told-7 : tie.Need-enum-told-7
 enum-told-7 c = search needs
 
--- src/lib.rt:300:47
 slice-read-compared : tie.Need-slice-read-compared
 slice-read-compared c = search needs
 
--- src/lib.rt:300:29
 compared-requires : tie.Need-compared-requires
 compared-requires c κs = search needs
 
--- src/lib.rt:301:29
 enum-told-8 : tie.Need-enum-told-8
 enum-told-8 c = search needs
 
--- src/lib.rt:301:29
 anew-requires-6 : tie.Need-anew-requires-6
 anew-requires-6 c κs = search needs
 
--- src/lib.rt:269:1
 same-length : tie.Need-same-length
 same-length c = search needs
 
--- src/lib.rt:269:1
 same-length-2 : tie.Need-same-length-2
 same-length-2 c = search needs
 
--- src/lib.rt:269:1
 returns : tie.Need-returns
 unfolding commanded
 returns c = let w = c .before .before .before .before .before .write-with-bit .ensures in rw (c .before .before .before .before .before .before .before .before .enum-told .given .1, w .0, w .1, c .anew .ensures)
 
--- src/lib.rt:269:1
 same-length-3 : tie.Need-same-length-3
 same-length-3 c = search needs
 
--- src/lib.rt:269:1
 same-length-4 : tie.Need-same-length-4
 same-length-4 c = search needs
 
--- src/lib.rt:269:1
 returns-2 : tie.Need-returns-2
 unfolding commanded
 returns-2 c = rw (c .before .before .before .before .before .before .enum-told2 .given .1, c .before .before .before .write .ensures .1, c .anew2 .ensures)
 
--- src/lib.rt:269:1
 same-length-5 : tie.Need-same-length-5
 same-length-5 c = search needs
 
--- src/lib.rt:269:1
 same-length-6 : tie.Need-same-length-6
 same-length-6 c = search needs
 
--- src/lib.rt:269:1
 returns-3 : tie.Need-returns-3
 unfolding commanded
 returns-3 c = rw (c .before .before .before .before .before .before .enum-told3 .given .1, c .before .before .before .protect .ensures, c .anew3 .ensures)
 
--- src/lib.rt:269:1
 returns-4 : tie.Need-returns-4
 unfolding commanded
 returns-4 c = rw (c .before .enum-told4 .given .1, c .anew4 .ensures)
 
--- src/lib.rt:269:1
 returns-5 : tie.Need-returns-5
 unfolding commanded
 returns-5 c = rw (c .before .enum-told5 .given .1, c .anew5 .ensures)
 
--- src/lib.rt:269:1
 same-length-7 : tie.Need-same-length-7
 same-length-7 c = search needs
 
--- src/lib.rt:269:1
 same-length-8 : tie.Need-same-length-8
 same-length-8 c = search needs
 
--- src/lib.rt:269:1
 returns-6 : tie.Need-returns-6
 unfolding commanded
 returns-6 c = let w = c .before .before .before .count .ensures in rw (c .before .before .before .before .before .before .enum-told6 .given .1, c .counted .ensures, w .0, w .1)
 
--- src/lib.rt:269:1
 returns-7 : tie.Need-returns-7
 unfolding commanded
 returns-7 c = rw (c .before .before .enum-told7 .given .1, c .compared .ensures)
 
--- src/lib.rt:269:1
 returns-8 : tie.Need-returns-8
 unfolding commanded
 returns-8 c = rw (c .before .enum-told8 .given .1, c .anew6 .ensures)

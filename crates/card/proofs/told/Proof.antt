@@ -3,31 +3,22 @@ use borrow.Author.Tests.{lt-ltb, le-ltb}
 use borrow.Author.Needs.{needs}
 use Rattle.card.proofs.told.Statement.{statement}
 use Rattle.card.proofs.told.Tie as tie
-use Rattle.card.proofs.told.Reads as reads
-use Rattle.card.proofs.told.Lts as lts
-use Rattle.card.proofs.Stage.is_open.Reads as is-open-reads
 
--- src/lib.rt:310:8
 is-open-requires : tie.Need-is-open-requires
 is-open-requires c κs = search needs
 
--- src/lib.rt:311:16
 shared-slice-read-result : tie.Need-shared-slice-read-result
 shared-slice-read-result c = search needs
 
--- src/lib.rt:311:9
 returns : tie.Need-returns
 returns c = rw (← (c .before .before .is-open .ensures), c .before .if1 .taken)
 
--- src/lib.rt:314:16
 shared-slice-read-result-2 : tie.Need-shared-slice-read-result-2
 shared-slice-read-result-2 c = search needs
 
--- src/lib.rt:314:9
 returns-2 : tie.Need-returns-2
 returns-2 c = rw (← (c .before .before .before .is-open .ensures), c .before .before .if1 .left, lt-ltb _ _ (c .before .if2 .taken))
 
--- src/lib.rt:306:1
 returns-3 : tie.Need-returns-3
 returns-3 c = rw (← (c .before .before .is-open .ensures), c .before .if1 .left, le-ltb _ _ (c .if2 .left))
 

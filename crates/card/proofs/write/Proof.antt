@@ -1,30 +1,22 @@
 -- A write: done where the byte can be written, and the cells are else as they were.
-use borrow.Author.Tests.{not-true, not-false}
 use mathlib.Core.Path.{refl}
+use borrow.Author.Tests.{not-true, not-false}
 use borrow.Author.Needs.{needs}
 use Rattle.card.proofs.write.Statement.{statement}
 use Rattle.card.proofs.write.Tie as tie
-use Rattle.card.proofs.write.Reads as reads
-use Rattle.card.proofs.write.Lts as lts
-use Rattle.card.proofs.writable.Reads as writable-reads
 
--- src/lib.rt:214:9
 writable-requires : tie.Need-writable-requires
 writable-requires c κs = search needs
 
--- src/lib.rt:215:9
 returns : tie.Need-returns
 returns c = rw (← (c .before .writable .ensures), not-true (c .before .writable .result) (c .if1 .taken)) (refl, refl)
 
--- src/lib.rt:217:5
 slice-write-cells : tie.Need-slice-write-cells
 slice-write-cells c = search needs
 
--- src/lib.rt:208:1
 same-length : tie.Need-same-length
 same-length c = search needs
 
--- src/lib.rt:208:1
 returns-2 : tie.Need-returns-2
 returns-2 c = rw (← (c .before .writable .ensures), not-false (c .before .writable .result) (c .if1 .left)) (refl, refl)
 

@@ -3,20 +3,15 @@ use borrow.Author.Tests.{eq-eqb, ne-eqb}
 use Rattle.card_face.specs.Face.{refusedAs}
 use Rattle.card_face.proofs.refused.Statement.{statement}
 use Rattle.card_face.proofs.refused.Tie as tie
-use Rattle.card_face.proofs.refused.Reads as reads
-use Rattle.card_face.proofs.refused.Lts as lts
 
--- src/lib.rt:79:9
 returns : tie.Need-returns
 unfolding refusedAs
 returns c = rw (ne-eqb _ _ (c .if1 .taken))
 
--- src/lib.rt:82:9
 returns-2 : tie.Need-returns-2
 unfolding refusedAs
 returns-2 c = rw (eq-eqb _ _ (c .before .if1 .left), ne-eqb _ _ (c .if2 .taken))
 
--- src/lib.rt:75:1
 returns-3 : tie.Need-returns-3
 unfolding refusedAs
 returns-3 c = rw (eq-eqb _ _ (c .before .if1 .left), eq-eqb _ _ (c .if2 .left))

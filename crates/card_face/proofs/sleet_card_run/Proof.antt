@@ -1,56 +1,39 @@
 -- A run in C: a number that is no stage is refused; else the run of the slot.
-use borrow.Author.Tests.{le-leb, lt-leb}
-use Rattle.card_face.specs.Face.{faceRun, faceEnd}
 use mathlib.Core.Path.{ap}
+use borrow.Author.Tests.{le-leb, lt-leb}
 use borrow.Author.Needs.{needs}
+use Rattle.card_face.specs.Face.{faceRun, faceEnd}
 use Rattle.card_face.proofs.sleet_card_run.Statement.{statement}
 use Rattle.card_face.proofs.sleet_card_run.Tie as tie
-use Rattle.card_face.proofs.sleet_card_run.Reads as reads
-use Rattle.card_face.proofs.sleet_card_run.Lts as lts
-use Rattle.card_face.proofs.answer_of.Reads as answer-of-reads
-use Rattle.card_face.proofs.nothing.Reads as nothing-reads
-use Rattle.card_face.proofs.refused.Reads as refused-reads
-use Rattle.card_face.proofs.stage_of.Reads as stage-of-reads
-use Rattle.slot.proofs.run.Reads as run-reads
 
--- src/lib.rt:122:30
 refused-requires : tie.Need-refused-requires
 refused-requires c κs = search needs
 
--- src/lib.rt:122:9
 nothing-requires : tie.Need-nothing-requires
 nothing-requires c κs = search needs
 
--- src/lib.rt:122:9
 returns : tie.Need-returns
 unfolding faceRun
 returns c = rw (c .nothing .ensures, c .before .refused .ensures, lt-leb _ _ (c .before .before .if1 .taken))
 
--- src/lib.rt:124:25
 stage-of-requires : tie.Need-stage-of-requires
 stage-of-requires c κs = search needs
 
--- src/lib.rt:124:15
 run-requires : tie.Need-run-requires
 run-requires c κs = search needs
 
--- src/lib.rt:124:5
 answer-of-requires : tie.Need-answer-of-requires
 answer-of-requires c κs = search needs
 
--- src/lib.rt:109:1
 same-length : tie.Need-same-length
 same-length c = search needs
 
--- src/lib.rt:109:1
 same-length-2 : tie.Need-same-length-2
 same-length-2 c = search needs
 
--- src/lib.rt:109:1
 same-length-3 : tie.Need-same-length-3
 same-length-3 c = search needs
 
--- src/lib.rt:109:1
 returns-2 : tie.Need-returns-2
 unfolding faceRun
 returns-2 c = rw (c .answer-of .ensures, le-leb _ _ (c .before .before .before .before .before .before .before .before .before .before .before .before .if1 .left), ← (c .before .before .before .before .before .before .before .before .before .before .before .stage-of .ensures)) (ap faceEnd (c .before .before .before .before .before .before .before .run .ensures))

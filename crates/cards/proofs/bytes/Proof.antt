@@ -1,8 +1,8 @@
 -- `bytes` is safe and ends: its place stays within the slice, and what is left of the slice falls.
 use Prim.Native.Nat.{_≤_, _-_}
 use native.Mathlib.Omega.{arith}
-use borrow.Author.Needs.{needs}
 use lib.ListN.{length}
+use borrow.Author.Needs.{needs}
 use Rattle.cards.proofs.bytes.Statement.{statement}
 use Rattle.cards.proofs.bytes.Tie as tie
 

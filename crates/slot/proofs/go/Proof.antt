@@ -2,8 +2,8 @@
 use mathlib.Core.Path.{sym, _∙_}
 use Prim.Native.Nat.{_-_}
 use native.Mathlib.Omega.{arith}
-use borrow.Author.Needs.{needs}
 use lib.ListN.{length}
+use borrow.Author.Needs.{needs}
 use Rattle.card.specs.Card.{card}
 use Rattle.slot.proofs.Loop.{Going, going-start, out-long, stands, going-on, going-off}
 use Rattle.slot.proofs.go.Statement.{statement}

@@ -1,74 +1,53 @@
 -- One turn: no record, or one whose answer has no room, or the record done.
 use mathlib.Core.Path.{sym, _∙_}
 use native.Mathlib.Omega.{arith}
-use Rattle.slot.proofs.Turns.{further, turn-stops, turn-full, turn-goes}
 use borrow.Author.Needs.{needs}
+use Rattle.slot.proofs.Turns.{further, turn-stops, turn-full, turn-goes}
 use Rattle.slot.proofs.onward.Statement.{statement}
 use Rattle.slot.proofs.onward.Tie as tie
-use Rattle.slot.proofs.onward.Reads as reads
-use Rattle.slot.proofs.onward.Lts as lts
-use Rattle.cardlog.proofs.next_at.Reads as next-at-reads
-use Rattle.slot.proofs.refusal_of.Reads as refusal-of-reads
-use Rattle.slot.proofs.room_of.Reads as room-of-reads
-use Rattle.slot.proofs.turn.Reads as turn-reads
 
--- src/lib.rt:145:11
 next-at-requires : tie.Need-next-at-requires
 next-at-requires c κs = search needs
 
--- src/lib.rt:146:20
 enum-known-why : tie.Need-enum-known-why
 enum-known-why c = search needs
 
--- src/lib.rt:146:38
 refusal-of-requires : tie.Need-refusal-of-requires
 refusal-of-requires c κs = search needs
 
--- src/lib.rt:147:21
 enum-known-e : tie.Need-enum-known-e
 enum-known-e c = search needs
 
--- src/lib.rt:148:17
 room-of-requires : tie.Need-room-of-requires
 room-of-requires c κs = search needs
 
--- src/lib.rt:149:16
 sub-if1 : tie.Need-sub-if1
 sub-if1 c = search needs
 
--- src/lib.rt:150:17
 returns : tie.Need-returns
 returns c = turn-full _ _ _ _ _ _ (sym (c .before .before .before .before .before .before .next-at .ensures) ∙ c .before .before .before .before .e .given .1) (omega (arith, c .if1 .taken, c .before .before .room-of .ensures))
 
--- src/lib.rt:152:27
 add-records : tie.Need-add-records
 add-records c = omega (arith, c .before .before .before .before .before .before .before .before .before .before .before .before .pre .1, further _ _ (c .before .before .before .before .before .before .before .before .before .before .before .before .pre .1 .inside) _ _ (sym (c .before .before .before .before .before .before .before .next-at .ensures) ∙ c .before .before .before .before .before .e .given .1))
 
--- src/lib.rt:153:27
 add-written : tie.Need-add-written
 add-written c = search needs
 
--- src/lib.rt:155:17
 turn-requires : tie.Need-turn-requires
 turn-requires c κs = (c .before .before .before .before .before .before .before .before .before .before .before .before .before .before .before .before .pre .0, omega (arith, c .before .before .before .before .before .before .before .before .before .before .before .before .before .before .before .before .pre .1, c .before .before .before .before .before .if1 .left, c .before .before .before .before .before .before .before .room-of .ensures))
 
--- src/lib.rt:139:1
 returns-2 : tie.Need-returns-2
 returns-2 c = turn-stops _ _ _ _ _ _ (sym (c .before .before .before .before .next-at .ensures) ∙ c .before .before .why .given .1) (c .refusal-of .ensures)
 
--- src/lib.rt:139:1
 same-length : tie.Need-same-length
 same-length c = search needs
 
--- src/lib.rt:139:1
 same-length-2 : tie.Need-same-length-2
 same-length-2 c = search needs
 
--- src/lib.rt:139:1
 same-length-3 : tie.Need-same-length-3
 same-length-3 c = search needs
 
--- src/lib.rt:139:1
 returns-3 : tie.Need-returns-3
 returns-3 c = turn-goes _ _ _ _ _ _ _ _ _ (sym (c .before .before .before .before .before .before .before .before .before .before .before .before .before .before .before .before .before .before .next-at .ensures) ∙ c .before .before .before .before .before .before .before .before .before .before .before .before .before .before .before .before .e .given .1) (c .before .before .before .before .before .before .before .before .before .before .before .before .before .before .room-of .ensures) (omega (arith, c .before .before .before .before .before .before .before .before .before .before .before .before .if1 .left)) (c .before .before .before .before .before .before .turn .ensures .0) (c .before .before .before .before .before .before .turn .ensures .1)
 

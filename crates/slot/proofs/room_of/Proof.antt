@@ -2,32 +2,22 @@
 use borrow.Author.Needs.{needs}
 use Rattle.slot.proofs.room_of.Statement.{statement}
 use Rattle.slot.proofs.room_of.Tie as tie
-use Rattle.slot.proofs.room_of.Reads as reads
-use Rattle.slot.proofs.room_of.Lts as lts
-use Rattle.card.proofs.answer_length.Reads as answer-length-reads
-use Rattle.card.proofs.sent.Reads as sent-reads
 
--- src/lib.rt:108:22
 enum-known-e : tie.Need-enum-known-e
 enum-known-e c = search needs
 
--- src/lib.rt:108:63
 sent-requires : tie.Need-sent-requires
 sent-requires c κs = search needs
 
--- src/lib.rt:108:43
 answer-length-requires : tie.Need-answer-length-requires
 answer-length-requires c κs = search needs
 
--- src/lib.rt:109:26
 enum-told : tie.Need-enum-told
 enum-told c = search needs
 
--- src/lib.rt:104:1
 returns : tie.Need-returns
 returns c = rw (c .answer-length .ensures, c .before .sent .ensures, c .before .before .before .e .given .1)
 
--- src/lib.rt:104:1
 returns-2 : tie.Need-returns-2
 returns-2 c = search needs
 

@@ -3,54 +3,40 @@ use borrow.Author.Tests.{eq-eqb, ne-eqb, not-true, not-false}
 use borrow.Author.Needs.{needs}
 use Rattle.card.proofs.Stage.compared.Statement.{statement}
 use Rattle.card.proofs.Stage.compared.Tie as tie
-use Rattle.card.proofs.Stage.compared.Reads as reads
-use Rattle.card.proofs.Stage.compared.Lts as lts
 
--- src/lib.rt:76:29
 enum-told : tie.Need-enum-told
 enum-told c = search needs
 
--- src/lib.rt:78:20
 enum-told-2 : tie.Need-enum-told-2
 enum-told-2 c = search needs
 
--- src/lib.rt:79:21
 returns : tie.Need-returns
 returns c = rw (c .before .enum-told2 .given .1, ne-eqb _ _ (c .if1 .taken))
 
--- src/lib.rt:82:21
 returns-2 : tie.Need-returns-2
 returns-2 c = rw (c .before .before .enum-told2 .given .1, eq-eqb _ _ (c .before .if1 .left), not-true (c .before .before .before .before .args .right) (c .if2 .taken))
 
--- src/lib.rt:87:20
 enum-told-3 : tie.Need-enum-told-3
 enum-told-3 c = search needs
 
--- src/lib.rt:88:21
 returns-3 : tie.Need-returns-3
 returns-3 c = rw (c .before .enum-told3 .given .1, ne-eqb _ _ (c .if3 .taken))
 
--- src/lib.rt:91:21
 returns-4 : tie.Need-returns-4
 returns-4 c = rw (c .before .before .enum-told3 .given .1, eq-eqb _ _ (c .before .if3 .left), not-true (c .before .before .before .before .args .right) (c .if4 .taken))
 
--- src/lib.rt:95:28
 enum-told-4 : tie.Need-enum-told-4
 enum-told-4 c = search needs
 
--- src/lib.rt:72:5
 returns-5 : tie.Need-returns-5
 returns-5 c = search needs
 
--- src/lib.rt:72:5
 returns-6 : tie.Need-returns-6
 returns-6 c = rw (c .before .before .enum-told2 .given .1, eq-eqb _ _ (c .before .if1 .left), not-false (c .before .before .before .before .args .right) (c .if2 .left))
 
--- src/lib.rt:72:5
 returns-7 : tie.Need-returns-7
 returns-7 c = rw (c .before .before .enum-told3 .given .1, eq-eqb _ _ (c .before .if3 .left), not-false (c .before .before .before .before .args .right) (c .if4 .left))
 
--- src/lib.rt:72:5
 returns-8 : tie.Need-returns-8
 returns-8 c = search needs
 
