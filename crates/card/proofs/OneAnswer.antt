@@ -5,8 +5,6 @@ use Prim.Native.Nat.{ℕ}
 use denote.Ref.{now}
 use Rattle.part.specs.OneAnswer.{OneAnswer, OneEnd}
 use Rattle.card.specs.Card.{Card}
-use Rattle.card.proofs.Stage.is_open.Reads as is-open-reads
-use Rattle.card.proofs.Stage.is_open.Kinds as is-open-kinds
 use Rattle.card.proofs.address_of.Reads as address-of-reads
 use Rattle.card.proofs.address_of.Kinds as address-of-kinds
 use Rattle.card.proofs.sent.Reads as sent-reads
@@ -25,9 +23,6 @@ pub record Lent : Type 0 where
 
 abbrev pub lent : List ℕ → List ℕ → Lent
 lent cells bits = record { cells = cells; bits = bits }
-
-pub is-open-one : OneAnswer 0 is-open-kinds.ps is-open-kinds.r is-open-reads.Post
-is-open-one κs a x y s t p q = p ∙ sym q
 
 pub address-of-one : OneAnswer 0 address-of-kinds.ps address-of-kinds.r address-of-reads.Post
 address-of-one κs a x y s t p q = p ∙ sym q

@@ -32,7 +32,7 @@ pub enum Command {
 
 impl Stage {
     // Whether the code has passed.
-    pub fn is_open(self) -> bool
+    fn is_open(self) -> bool
         ensures { λ r. ⌜ r ≡ isOpen self ⌝ }
     {
         match self {

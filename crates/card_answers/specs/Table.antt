@@ -10,8 +10,8 @@ use Rattle.card.specs.Card.{Card, takes}
 use Rattle.slot.specs.Turns.{Fits}
 use Rattle.slot.specs.Runs.{roomFor}
 
--- the log is the bytes of some records, whose answers have room, and then what line n says (0: nothing; 6: a kind not in the table; 7: a body
--- cut short)
+-- the log is the bytes of some records, whose answers have room, and then what line n says (0: nothing; 6: a kind not in the table;
+-- 7: a body cut short)
 pub record Stops (log : List ℕ) (room n : ℕ) : Type 0 where
   pub earlier : List Record
   pub rest : List ℕ

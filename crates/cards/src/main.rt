@@ -1,5 +1,5 @@
-// A table of calls on the proved card slot: each line of the input is a case, and a line is printed for it. The expected lines are printed by
-// the independent model; none is copied from what this program printed. The head of the input says how a line is written.
+// A table of calls on the proved card slot: each line of the input is a case, and a line is printed for it. The expected lines are printed
+// by the independent model; none is copied from what this program printed. The head of the input says how a line is written.
 ghost use Prim.Native.Nat.{_≤_};
 use card::Stage;
 use libc::STDOUT_FILENO;
@@ -20,8 +20,8 @@ struct Given {
     out: usize,
 }
 
-// Where the reading stands: what is given, the part of the line, and the letter whose digits are read, with how many are to come, or have come
-// for a log, and the number so far.
+// Where the reading stands: what is given, the part of the line, and the letter whose digits are read, with how many are to come, or have
+// come for a log, and the number so far.
 struct Reader {
     given: Given,
     part: Part,

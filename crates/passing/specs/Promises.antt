@@ -1,5 +1,5 @@
--- What no card log can do, what opens a card, and how often that can be tried. The log, the room and the card are any; refused logs too: the
--- records done.
+-- What no card log can do, what opens a card, and how often that can be tried. The log, the room and the card are any; of a refused log it
+-- is the records done.
 use mathlib.Core.Bool.{Bool, true, false, _&&_}
 use mathlib.Core.List.{List, [], _∷_}
 use mathlib.Core.Logic.{_↔_, _⊎_}
