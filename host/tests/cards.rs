@@ -13,51 +13,29 @@
 mod support;
 
 use std::fmt::Write;
-use std::fs;
 use std::iter::Peekable;
 use std::ops::Range;
-use std::path::PathBuf;
 
 use sleetanvil::paper::page;
 use support::carding::{library, model, Call, Case, Memory, Outcome, Subject};
+use support::written::Written;
+
+const CASES: Written = Written("cards");
 
 #[test]
 fn model_prints_the_cases() {
-    compare(&model);
+    CASES.compare(|case| line(case, &model));
 }
 
 #[test]
 fn library_prints_the_cases() {
-    compare(&library);
+    CASES.compare(|case| line(case, &library));
 }
 
 #[test]
 #[ignore = "writes the expected lines anew"]
 fn expected_lines_anew() {
-    let lines = printed(&model).join("\n") + "\n";
-    fs::write(path("stdout"), lines).expect("a place for the lines");
-}
-
-fn compare(subject: Subject) {
-    let expected = fs::read_to_string(path("stdout")).expect("the expected lines");
-    let (printed, expected) = (printed(subject), expected.lines());
-    assert!(!printed.is_empty());
-    assert_eq!(printed.len(), expected.clone().count());
-    for (line, expected) in printed.iter().zip(expected) {
-        assert_eq!(line, expected);
-    }
-}
-
-/// The lines of all cases.
-fn printed(subject: Subject) -> Vec<String> {
-    let input = fs::read_to_string(path("stdin")).expect("the cases");
-    let cases = input.lines().filter(|line| !line.starts_with('#'));
-    cases.map(|case| line(case, subject)).collect()
-}
-
-fn path(name: &str) -> PathBuf {
-    let package = PathBuf::from(env!("CARGO_MANIFEST_DIR"));
-    package.join("../crates/cards").join(name)
+    CASES.anew(|case| line(case, &model));
 }
 
 /// How long the buffers of cells, protect bits and output are, how much of each is lent at first,

@@ -6,34 +6,21 @@
 mod support;
 
 use std::fmt::Write;
-use std::fs;
-use std::path::Path;
 
 use sleetanvil::raw::{self, RawKeeper};
 use support::keeping::{library, model, Call, Subject};
+use support::written::Written;
+
+const CASES: Written = Written("turns");
 
 #[test]
 fn model_prints_the_cases() {
-    compare(model);
+    CASES.compare(|case| line(case, model));
 }
 
 #[test]
 fn library_prints_the_cases() {
-    compare(library);
-}
-
-fn compare(subject: Subject) {
-    let input = file("stdin");
-    let cases = input.lines().filter(|line| !line.starts_with('#'));
-    let printed: Vec<String> = cases.map(|case| line(case, subject)).collect();
-    let expected: Vec<String> = file("stdout").lines().map(String::from).collect();
-    assert!(!expected.is_empty());
-    assert_eq!(printed, expected);
-}
-
-fn file(name: &str) -> String {
-    let folder = Path::new(env!("CARGO_MANIFEST_DIR")).join("../crates/turns");
-    fs::read_to_string(folder.join(name)).expect("a file of the cases")
+    CASES.compare(|case| line(case, library));
 }
 
 /// The line that is printed for a case.

@@ -1,6 +1,6 @@
 //! What the tests share: the library on a case and the comparison of outcomes, calls on a keeper, on a
-//! card and of the parameter page, a random number generator, a generator of cases, the hunt with its
-//! report, and how a program is started.
+//! card and of the parameter page, written cases, a random number generator, a generator of cases, the
+//! hunt with its report, and how a program is started.
 
 // Each test program uses a part of it.
 #![allow(dead_code)]
@@ -12,6 +12,7 @@ pub mod hunt;
 pub mod keeping;
 pub mod paging;
 pub mod rng;
+pub mod written;
 
 use std::env;
 use std::path::Path;
