@@ -4,13 +4,8 @@ use Prim.Native.Nat.{ℕ, zero, suc, _+_, _*_, _/_, _%_, _<_}
 use native.Mathlib.Nat.{add-zero}
 use native.Mathlib.Omega.{arith}
 use lib.Arith.{bin-ind}
-use lib.Bits.{bitXor, differ, xor-step, xor-zero-l, xor-comm, xor-self, xor-block}
-
-step-half : (q r : ℕ) → r < 2 → (q * 2 + r) / 2 ≡ q
-step-half q r h = omega arith
-
-step-odd : (q r : ℕ) → r < 2 → (q * 2 + r) % 2 ≡ r
-step-odd q r h = omega arith
+use lib.Bits.{bitXor, differ, xor-step, xor-zero-l, xor-comm, xor-self, xor-shr, xor-block}
+use Rattle.part.proofs.Bits.{step-odd}
 
 differ-lt : (x y : ℕ) → x < 2 → y < 2 → differ x y < 2
 differ-lt zero y hx hy = hy
@@ -32,7 +27,7 @@ module _ (a b : ℕ) where
   bits-lt = differ-lt (a % 2) (b % 2) (omega arith) (omega arith)
 
   xor-half : bitXor a b / 2 ≡ bitXor (a / 2) (b / 2)
-  xor-half = ap (λ (x : ℕ). x / 2) (xor-step a b) ∙ step-half (bitXor (a / 2) (b / 2)) (differ (a % 2) (b % 2)) bits-lt
+  xor-half = xor-shr a b 1
 
   pub xor-odd : bitXor a b % 2 ≡ differ (a % 2) (b % 2)
   xor-odd = ap (λ (x : ℕ). x % 2) (xor-step a b) ∙ step-odd (bitXor (a / 2) (b / 2)) (differ (a % 2) (b % 2)) bits-lt

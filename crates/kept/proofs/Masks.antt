@@ -1,12 +1,13 @@
 -- The write masks: a mask applied twice is the mask applied once, so a register written is within its mask.
 use mathlib.Core.Bool.{not, _&&_}
 use mathlib.Core.Path.{_≡_, refl, sym, ap, ap₂, _∙_}
-use Prim.Native.Nat.{ℕ, zero, _+_, _*_, _/_, _%_, _<_, min}
+use Prim.Native.Nat.{ℕ, zero, _+_, _*_, _/_, _%_, min}
 use native.Mathlib.Omega.{arith}
 use lib.Arith.{bin-ind}
-use lib.Bits.{bitAnd, and-step, and-zero-l, and-self}
+use lib.Bits.{bitAnd, and-step, and-shr, and-zero-l, and-self}
 use lib.Dec.{eqb}
 use Rattle.part.specs.declared.Geometry.{Geometry}
+use Rattle.part.proofs.Bits.{and-odd}
 use Rattle.part.proofs.Choice.{cond-keep}
 use Rattle.registers.specs.Registers.{a0Mask, b0Mask, d0Mask, atPowerUp, locked, registerWritten}
 use Rattle.registers.specs.declared.Pins.{Pins}
@@ -15,19 +16,9 @@ use Rattle.soundness.specs.Soundness.{Within}
 
 -- ---- AND is associative
 
--- the two parts of a step, read back
-step-half : (q r : ℕ) → r < 2 → (q * 2 + r) / 2 ≡ q
-step-half q r h = omega arith
-
-step-odd : (q r : ℕ) → r < 2 → (q * 2 + r) % 2 ≡ r
-step-odd q r h = omega arith
-
--- the half and the last bit of an AND
+-- the half of an AND
 and-half : (a b : ℕ) → bitAnd a b / 2 ≡ bitAnd (a / 2) (b / 2)
-and-half a b = ap (λ (x : ℕ). x / 2) (and-step a b) ∙ step-half (bitAnd (a / 2) (b / 2)) (min (a % 2) (b % 2)) (omega arith)
-
-and-odd : (a b : ℕ) → bitAnd a b % 2 ≡ min (a % 2) (b % 2)
-and-odd a b = ap (λ (x : ℕ). x % 2) (and-step a b) ∙ step-odd (bitAnd (a / 2) (b / 2)) (min (a % 2) (b % 2)) (omega arith)
+and-half a b = and-shr a b 1
 
 and-assoc : (a b c : ℕ) → bitAnd (bitAnd a b) c ≡ bitAnd a (bitAnd b c)
 and-assoc a = bin-ind (λ (a : ℕ). (b c : ℕ) → bitAnd (bitAnd a b) c ≡ bitAnd a (bitAnd b c)) base step a

@@ -1,14 +1,15 @@
 -- Binary digits: of half a number and of an AND; and the counter command's mask, which clears exactly one.
 use mathlib.Core.Bool.{Bool, true, false}
 use mathlib.Core.Path.{_≡_, refl, sym, ap, _∙_}
-use Prim.Native.Nat.{ℕ, zero, suc, _+_, _*_, _/_, _%_, _^_, _≤_, _<_, min}
+use Prim.Native.Nat.{ℕ, zero, suc, _+_, _/_, _%_, _^_, _≤_, min}
 use native.Mathlib.Nat.{div-one, div-div-eq-div-mul, pow-succ'}
 use native.Mathlib.Omega.{arith}
 use lib.Arith.{bin-ind}
-use lib.Bits.{bitAnd, and-step, and-shr}
+use lib.Bits.{bitAnd, and-shr}
 use lib.Count.{ones, onesIn, ones-step}
 use lib.Dec.{eqb}
 use borrow.Author.Tests.{eqb-true, eqb-false, eq-eqb}
+use Rattle.part.proofs.Bits.{and-odd}
 use Rattle.card.specs.Card.{clearsOne}
 use Rattle.passing.specs.Promises.{OneBitLess, ClearsExactly}
 
@@ -22,19 +23,13 @@ half-digit n k = div-div-eq-div-mul n 2 (2 ^ k) ∙ ap (λ (x : ℕ). n / x) (sy
 low-digit : (n : ℕ) → n / 2 ^ 0 % 2 ≡ n % 2
 low-digit n = ap (λ (x : ℕ). x % 2) (div-one n)
 
--- the half and the lowest digit of an AND
+-- the half of an AND
 and-half : (a b : ℕ) → bitAnd a b / 2 ≡ bitAnd (a / 2) (b / 2)
 and-half a b = and-shr a b 1
 
-and-low : (a b : ℕ) → bitAnd a b % 2 ≡ min (a % 2) (b % 2)
-and-low a b = ap (λ (x : ℕ). x % 2) (and-step a b) ∙ low (bitAnd (a / 2) (b / 2)) (min (a % 2) (b % 2)) (omega arith)
-  where
-    low : (q r : ℕ) → r < 2 → (q * 2 + r) % 2 ≡ r
-    low q r h = omega arith
-
 -- an AND has no digit that the number has not
 pub and-digit : (a b k : ℕ) → bitAnd a b / 2 ^ k % 2 ≤ a / 2 ^ k % 2
-and-digit a b k = rw (and-shr a b k) (omega (arith, and-low (a / 2 ^ k) (b / 2 ^ k)))
+and-digit a b k = rw (and-shr a b k) (omega (arith, and-odd (a / 2 ^ k) (b / 2 ^ k)))
 
 -- numbers with the same digits are the same
 same-digits : (a b : ℕ) → ((k : ℕ) → a / 2 ^ k % 2 ≡ b / 2 ^ k % 2) → a ≡ b
@@ -69,7 +64,7 @@ unfolding ones onesIn
 and-ones a = bin-ind (λ (a : ℕ). (b : ℕ) → ones (bitAnd a b) ≤ ones a) (λ b. omega arith) more a
   where
     more : (a : ℕ) → ((b : ℕ) → ones (bitAnd (a / 2) b) ≤ ones (a / 2)) → (b : ℕ) → ones (bitAnd a b) ≤ ones a
-    more a ih b = omega (arith, ones-step a, ones-step (bitAnd a b), ap ones (and-half a b), and-low a b, ih (b / 2))
+    more a ih b = omega (arith, ones-step a, ones-step (bitAnd a b), ap ones (and-half a b), and-odd a b, ih (b / 2))
 
 -- and as many only where it is the number
 and-same : (a b : ℕ) → ones (bitAnd a b) ≡ ones a → bitAnd a b ≡ a
@@ -79,8 +74,8 @@ and-same a = bin-ind (λ (a : ℕ). (b : ℕ) → ones (bitAnd a b) ≡ ones a �
     more a ih b e =
         let s : ones (bitAnd a b / 2) ≡ ones (bitAnd (a / 2) (b / 2)) = ap ones (and-half a b) in
         let l : ones (bitAnd (a / 2) (b / 2)) ≤ ones (a / 2) = and-ones (a / 2) (b / 2) in
-        let h : ones (bitAnd (a / 2) (b / 2)) ≡ ones (a / 2) = omega (arith, ones-step a, ones-step (bitAnd a b), and-low a b) in
-        omega (arith, ones-step a, ones-step (bitAnd a b), and-low a b, and-half a b, ih (b / 2) h)
+        let h : ones (bitAnd (a / 2) (b / 2)) ≡ ones (a / 2) = omega (arith, ones-step a, ones-step (bitAnd a b), and-odd a b) in
+        omega (arith, ones-step a, ones-step (bitAnd a b), and-odd a b, and-half a b, ih (b / 2) h)
 
 -- a digit above the lowest, of an AND
 and-next : (a b k : ℕ) → bitAnd a b / 2 ^ suc k % 2 ≡ bitAnd (a / 2) (b / 2) / 2 ^ k % 2
@@ -92,7 +87,7 @@ lost-low old mask f e =
     record {
       bit = 0;
       was = omega (arith, low-digit old);
-      is = omega (arith, low-digit (bitAnd old mask), and-low old mask);
+      is = omega (arith, low-digit (bitAnd old mask), and-odd old mask);
       others = others;
     }
   where
@@ -111,7 +106,7 @@ lost-above old mask e x =
     }
   where
     others : (k : ℕ) → ¬ (k ≡ suc (x .bit)) → bitAnd old mask / 2 ^ k % 2 ≡ old / 2 ^ k % 2
-    others zero g = omega (arith, low-digit (bitAnd old mask), low-digit old, and-low old mask)
+    others zero g = omega (arith, low-digit (bitAnd old mask), low-digit old, and-odd old mask)
     others (suc k) g = and-next old mask k ∙ x .others k (λ z. g (ap suc z)) ∙ ap (λ (x : ℕ). x % 2) (half-digit old k)
 
 -- so wherever it has one fewer to count, it has lost one
@@ -129,10 +124,10 @@ ones-less old = bin-ind (λ (old : ℕ). (mask : ℕ) → ones old ≡ ones (bit
         go : (t : Bool) → eqb (min (old % 2) (mask % 2)) (old % 2) ≡ t → OneBitLess old (bitAnd old mask)
         go true t =
             let q : min (old % 2) (mask % 2) ≡ old % 2 = eqb-true (min (old % 2) (mask % 2)) (old % 2) t in
-            lost-above old mask q (ih (mask / 2) (omega (arith, ones-step old, ones-step (bitAnd old mask), and-low old mask, s)))
+            lost-above old mask q (ih (mask / 2) (omega (arith, ones-step old, ones-step (bitAnd old mask), and-odd old mask, s)))
         go false t =
             let q : ¬ (min (old % 2) (mask % 2) ≡ old % 2) = eqb-false (min (old % 2) (mask % 2)) (old % 2) t in
-            lost-low old mask q (and-same (old / 2) (mask / 2) (omega (arith, ones-step old, ones-step (bitAnd old mask), and-low old mask, s)))
+            lost-low old mask q (and-same (old / 2) (mask / 2) (omega (arith, ones-step old, ones-step (bitAnd old mask), and-odd old mask, s)))
 
 -- ---- a counter command's mask clears exactly one bit
 

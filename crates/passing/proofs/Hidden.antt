@@ -44,7 +44,7 @@ module _ (c e : Card) (alike : Alike c e) where
       same-clearing (sent first second) a third (at-counter (first % 64) a)
   same-clears Power = refl
 
-  module _ (shut-c : isOpen (c .stage) ≡ false) (shut-e : isOpen (e .stage) ≡ false) where
+  module _ (closed-c : isOpen (c .stage) ≡ false) (closed-e : isOpen (e .stage) ≡ false) where
     -- it leaves them alike
     alike-step : (r : Record) → Alike (step c r) (step e r)
     alike-step r =
@@ -55,14 +55,14 @@ module _ (c e : Card) (alike : Alike c e) where
         }
       where
         x : OnlyCounted c (step c r)
-        x = only-step c r shut-c
+        x = only-step c r closed-c
 
         y : OnlyCounted e (step e r)
-        y = only-step e r shut-e
+        y = only-step e r closed-e
 
         at-the-counter : cellAt (step c r .cells) counter ≡ cellAt (step e r .cells) counter
         at-the-counter =
-            counter-after c r shut-c ∙ rw (same-clears r, alike .cells counter (λ z. omega arith) (λ z. omega arith)) (sym (counter-after e r shut-e))
+            counter-after c r closed-c ∙ rw (same-clears r, alike .cells counter (λ z. omega arith) (λ z. omega arith)) (sym (counter-after e r closed-e))
 
         cell : (a : ℕ) → ¬ (a ≡ code₁) → ¬ (a ≡ code₂) → (t : Bool) → eqb a counter ≡ t → cellAt (step c r .cells) a ≡ cellAt (step e r .cells) a
         cell a f g true t = rw (eqb-true a counter t) at-the-counter
@@ -73,7 +73,7 @@ module _ (c e : Card) (alike : Alike c e) where
     -- a read tells the same
     same-told : (a : ℕ) → told (c .stage) (c .cells) a ≡ told (e .stage) (e .cells) a
     same-told a =
-        rw (shut-c, shut-e)
+        rw (closed-c, closed-e)
         (cond-two (λ (m n : ℕ). m ≡ n) (ltb a code₁)
         (λ t. let h = ltb-true a code₁ t in alike .cells a (λ z. omega arith) (λ z. omega arith)) (λ t. refl))
 

@@ -10,46 +10,46 @@ use Rattle.card.specs.declared.Stage.{Stage}
 use Rattle.card.specs.declared.Stage.the-variants.{Counted, Half, Open}
 use Rattle.passing.specs.Promises.{after, clears, rightAt, ofFirst, PassedBy, three-steps, two-steps, one-step, PassesBy}
 use Rattle.passing.proofs.Records.{Place, here, past, place}
-use Rattle.passing.proofs.Steps.{untrue, Went, begun-anew, cleared, first-right, second-right, stayed-open, went, to-counted, to-half, to-open, shut-before}
+use Rattle.passing.proofs.Steps.{untrue, StageMove, begun-anew, cleared, first-right, second-right, stayed-open, stage-move, to-counted, to-half, to-open, closed-before}
 
 -- ---- one record back
 
 -- open after it, and not before
-open-went : {s : Stage} {x y z : Bool} {n : Stage} → Went s x y z n → isOpen s ≡ false → isOpen n ≡ true → (s ≡ Half) × (z ≡ true)
-open-went begun-anew f o = absurd (untrue o)
-open-went (cleared t) f o = absurd (untrue o)
-open-went (first-right e t) f o = absurd (untrue o)
-open-went (second-right e t) f o = (e, t)
-open-went (stayed-open e) f o = absurd (untrue (sym f ∙ ap isOpen e))
+open-move : {s : Stage} {x y z : Bool} {n : Stage} → StageMove s x y z n → isOpen s ≡ false → isOpen n ≡ true → (s ≡ Half) × (z ≡ true)
+open-move begun-anew f o = absurd (untrue o)
+open-move (cleared t) f o = absurd (untrue o)
+open-move (first-right e t) f o = absurd (untrue o)
+open-move (second-right e t) f o = (e, t)
+open-move (stayed-open e) f o = absurd (untrue (sym f ∙ ap isOpen e))
 
 open-by : {c n : Card} {es fs : List Record} → Place c n es fs → isOpen (c .stage) ≡ false → isOpen (n .stage) ≡ true →
     (c .stage ≡ Half) × (ofFirst (rightAt code₂ c) es ≡ true)
-open-by {c} (here e es q) f o = open-went (went c e) f (rw q at o)
+open-by {c} (here e es q) f o = open-move (stage-move c e) f (rw q at o)
 open-by (past q) f o = absurd (untrue (sym f ∙ (rw q at o)))
 
 -- half given after it, and a record follows
-half-went : {s : Stage} {x y z : Bool} {n : Stage} → Went s x y z n → n ≡ Half → (s ≡ Counted) × (y ≡ true)
-half-went begun-anew o = (cc, cc)
-half-went (cleared t) o = (cc, cc)
-half-went (first-right e t) o = (e, t)
-half-went (second-right e t) o = (cc, cc)
-half-went (stayed-open e) o = (cc, cc)
+half-move : {s : Stage} {x y z : Bool} {n : Stage} → StageMove s x y z n → n ≡ Half → (s ≡ Counted) × (y ≡ true)
+half-move begun-anew o = (cc, cc)
+half-move (cleared t) o = (cc, cc)
+half-move (first-right e t) o = (e, t)
+half-move (second-right e t) o = (cc, cc)
+half-move (stayed-open e) o = (cc, cc)
 
 half-by : {c n : Card} {es fs : List Record} → Place c n es fs → n .stage ≡ Half → (t : Record → Bool) → ofFirst t fs ≡ true →
     (c .stage ≡ Counted) × (ofFirst (rightAt code₁ c) es ≡ true)
-half-by {c} (here e es q) o t h = half-went (went c e) (rw q at o)
+half-by {c} (here e es q) o t h = half-move (stage-move c e) (rw q at o)
 half-by (past q) o t h = absurd (untrue h)
 
 -- counted after it, and a record follows
-counted-went : {s : Stage} {x y z : Bool} {n : Stage} → Went s x y z n → n ≡ Counted → x ≡ true
-counted-went begun-anew o = cc
-counted-went (cleared t) o = t
-counted-went (first-right e t) o = cc
-counted-went (second-right e t) o = cc
-counted-went (stayed-open e) o = cc
+counted-move : {s : Stage} {x y z : Bool} {n : Stage} → StageMove s x y z n → n ≡ Counted → x ≡ true
+counted-move begun-anew o = cc
+counted-move (cleared t) o = t
+counted-move (first-right e t) o = cc
+counted-move (second-right e t) o = cc
+counted-move (stayed-open e) o = cc
 
 counted-by : {c n : Card} {es fs : List Record} → Place c n es fs → n .stage ≡ Counted → (t : Record → Bool) → ofFirst t fs ≡ true → ofFirst (clears c) es ≡ true
-counted-by {c} (here e es q) o t h = counted-went (went c e) (rw q at o)
+counted-by {c} (here e es q) o t h = counted-move (stage-move c e) (rw q at o)
 counted-by (past q) o t h = absurd (untrue h)
 
 -- ---- and one record forth
@@ -67,9 +67,9 @@ open-on {c} (here e es q) t s = rw q (to-open c e t s)
 open-on (past q) t s = absurd (untrue t)
 
 -- not open behind a compare, so not before it
-shut-back : (p : ℕ) {c n : Card} {es fs : List Record} → Place c n es fs → ofFirst (rightAt p c) es ≡ true → isOpen (n .stage) ≡ false → isOpen (c .stage) ≡ false
-shut-back p {c} (here e es q) t f = shut-before p c e t (rw q at f)
-shut-back p (past q) t f = absurd (untrue t)
+closed-back : (p : ℕ) {c n : Card} {es fs : List Record} → Place c n es fs → ofFirst (rightAt p c) es ≡ true → isOpen (n .stage) ≡ false → isOpen (c .stage) ≡ false
+closed-back p {c} (here e es q) t f = closed-before p c e t (rw q at f)
+closed-back p (past q) t f = absurd (untrue t)
 
 -- ---- the three steps, of a card that is not open as the last of them begins
 
@@ -93,7 +93,7 @@ passed-by c es (suc (suc i)) f o =
 passes : (c : Card) (es : List Record) (i : ℕ) → isOpen (after c es i .stage) ≡ false → PassedBy c es i → after c es (suc i) .stage ≡ Open
 unfolding run
 passes c es _ f (three-steps i z y x) =
-    let s : after c es (suc i) .stage ≡ Counted = counted-on (place c es i) z (shut-back code₁ (place c es (suc i)) y f) in
+    let s : after c es (suc i) .stage ≡ Counted = counted-on (place c es i) z (closed-back code₁ (place c es (suc i)) y f) in
     open-on (place c es (suc (suc i))) x (half-on (place c es (suc i)) y s)
 passes c es _ f (two-steps s y x) = open-on (place c es 1) x (half-on (place c es 0) y s)
 passes c es _ f (one-step s x) = open-on (place c es 0) x s

@@ -105,19 +105,19 @@ leaves c Power e = alone refl refl
 -- ---- how far the code has been given
 
 -- from one stage to another, by three tests: that a bit is cleared, that the first byte is compared right, and that the second is
-pub data Went (s : Stage) (clear first second : Bool) : Stage → Type 0 where
-  begun-anew : Went s clear first second Fresh
-  cleared : clear ≡ true → Went s clear first second Counted
-  first-right : s ≡ Counted → first ≡ true → Went s clear first second Half
-  second-right : s ≡ Half → second ≡ true → Went s clear first second Open
-  stayed-open : s ≡ Open → Went s clear first second Open
+pub data StageMove (s : Stage) (clear first second : Bool) : Stage → Type 0 where
+  begun-anew : StageMove s clear first second Fresh
+  cleared : clear ≡ true → StageMove s clear first second Counted
+  first-right : s ≡ Counted → first ≡ true → StageMove s clear first second Half
+  second-right : s ≡ Half → second ≡ true → StageMove s clear first second Open
+  stayed-open : s ≡ Open → StageMove s clear first second Open
 
 -- a command that is no step
-went-anew : (s : Stage) (x y z : Bool) → Went s x y z (anew s)
-went-anew Fresh x y z = begun-anew
-went-anew Counted x y z = begun-anew
-went-anew Half x y z = begun-anew
-went-anew Open x y z = stayed-open refl
+move-anew : (s : Stage) (x y z : Bool) → StageMove s x y z (anew s)
+move-anew Fresh x y z = begun-anew
+move-anew Counted x y z = begun-anew
+move-anew Half x y z = begun-anew
+move-anew Open x y z = stayed-open refl
 
 -- the counter command: passing holds
 open-is : (s : Stage) → isOpen s ≡ true → s ≡ Open
@@ -126,35 +126,35 @@ open-is Counted e = absurd (untrue e)
 open-is Half e = absurd (untrue e)
 open-is Open e = refl
 
-went-count : (s : Stage) (b : Bool) → Went s b false false (counted s b)
-went-count s b =
-    cond-keep (Went s b false false) (isOpen s) (λ o. stayed-open (open-is s o)) (λ f. cond-keep (Went s b false false) b (λ t. cleared t) (λ f. begun-anew))
+move-count : (s : Stage) (b : Bool) → StageMove s b false false (counted s b)
+move-count s b =
+    cond-keep (StageMove s b false false) (isOpen s) (λ o. stayed-open (open-is s o)) (λ f. cond-keep (StageMove s b false false) b (λ t. cleared t) (λ f. begun-anew))
 
 -- a compare
-went-compare : (s : Stage) (a : ℕ) (r : Bool) → Went s false (eqb a code₁ && r) (eqb a code₂ && r) (compared s a r)
-went-compare Fresh a r = begun-anew
-went-compare Counted a r =
-    cond-keep (Went Counted false (eqb a code₁ && r) (eqb a code₂ && r)) (eqb a code₁ && r) (λ t. first-right refl t) (λ f. begun-anew)
-went-compare Half a r =
-    cond-keep (Went Half false (eqb a code₁ && r) (eqb a code₂ && r)) (eqb a code₂ && r) (λ t. second-right refl t) (λ f. begun-anew)
-went-compare Open a r = stayed-open refl
+move-compare : (s : Stage) (a : ℕ) (r : Bool) → StageMove s false (eqb a code₁ && r) (eqb a code₂ && r) (compared s a r)
+move-compare Fresh a r = begun-anew
+move-compare Counted a r =
+    cond-keep (StageMove Counted false (eqb a code₁ && r) (eqb a code₂ && r)) (eqb a code₁ && r) (λ t. first-right refl t) (λ f. begun-anew)
+move-compare Half a r =
+    cond-keep (StageMove Half false (eqb a code₁ && r) (eqb a code₂ && r)) (eqb a code₂ && r) (λ t. second-right refl t) (λ f. begun-anew)
+move-compare Open a r = stayed-open refl
 
 -- any command
-went-command : (c : Card) (k : Command) (a d : ℕ) → Went (c .stage) (clearing k c a d) (right k c a d code₁) (right k c a d code₂) (stageAfter c k a d)
-went-command c Count a d = went-count (c .stage) (spends (c .cells) (c .bits) a d)
-went-command c Compare a d = went-compare (c .stage) a (eqb (cellAt (c .cells) a) d)
-went-command c WriteWithBit a d = went-anew (c .stage) false false false
-went-command c Write a d = went-anew (c .stage) false false false
-went-command c Protect a d = went-anew (c .stage) false false false
-went-command c ReadWithBit a d = went-anew (c .stage) false false false
-went-command c Read a d = went-anew (c .stage) false false false
-went-command c Ignored a d = went-anew (c .stage) false false false
+move-command : (c : Card) (k : Command) (a d : ℕ) → StageMove (c .stage) (clearing k c a d) (right k c a d code₁) (right k c a d code₂) (stageAfter c k a d)
+move-command c Count a d = move-count (c .stage) (spends (c .cells) (c .bits) a d)
+move-command c Compare a d = move-compare (c .stage) a (eqb (cellAt (c .cells) a) d)
+move-command c WriteWithBit a d = move-anew (c .stage) false false false
+move-command c Write a d = move-anew (c .stage) false false false
+move-command c Protect a d = move-anew (c .stage) false false false
+move-command c ReadWithBit a d = move-anew (c .stage) false false false
+move-command c Read a d = move-anew (c .stage) false false false
+move-command c Ignored a d = move-anew (c .stage) false false false
 
 -- any record
-pub went : (c : Card) (e : Record) → Went (c .stage) (clears c e) (rightAt code₁ c e) (rightAt code₂ c e) (step c e .stage)
+pub stage-move : (c : Card) (e : Record) → StageMove (c .stage) (clears c e) (rightAt code₁ c e) (rightAt code₂ c e) (step c e .stage)
 unfolding step commanded
-went c (Sent first second third) = went-command c (sent first second) (addressOf first second) third
-went c Power = begun-anew
+stage-move c (Sent first second third) = move-command c (sent first second) (addressOf first second) third
+stage-move c Power = begun-anew
 
 -- ---- and the other way: each step is taken where its test holds
 
@@ -202,11 +202,11 @@ pub to-open : (c : Card) (e : Record) → rightAt code₂ c e ≡ true → c .st
 to-open = right-to code₂ (λ (s n : Stage). s ≡ Half → n ≡ Open) (λ s a r t e. rw e (cond-yes (eqb a code₂ && r) Open Fresh t))
 
 -- a compare does not shut a card
-shut-compare : (s : Stage) (a : ℕ) (r : Bool) → isOpen (compared s a r) ≡ false → isOpen s ≡ false
-shut-compare Fresh a r f = refl
-shut-compare Counted a r f = refl
-shut-compare Half a r f = refl
-shut-compare Open a r f = f
+closed-compare : (s : Stage) (a : ℕ) (r : Bool) → isOpen (compared s a r) ≡ false → isOpen s ≡ false
+closed-compare Fresh a r f = refl
+closed-compare Counted a r f = refl
+closed-compare Half a r f = refl
+closed-compare Open a r f = f
 
-pub shut-before : (p : ℕ) (c : Card) (e : Record) → rightAt p c e ≡ true → isOpen (step c e .stage) ≡ false → isOpen (c .stage) ≡ false
-shut-before p = right-to p (λ (s n : Stage). isOpen n ≡ false → isOpen s ≡ false) (λ s a r t. shut-compare s a r)
+pub closed-before : (p : ℕ) (c : Card) (e : Record) → rightAt p c e ≡ true → isOpen (step c e .stage) ≡ false → isOpen (c .stage) ≡ false
+closed-before p = right-to p (λ (s n : Stage). isOpen n ≡ false → isOpen s ≡ false) (λ s a r t. closed-compare s a r)

@@ -17,7 +17,7 @@ use Rattle.card.specs.declared.Stage.the-variants.{Fresh}
 use Rattle.passing.specs.Promises.{after, clearings, Tries, AtMostEight, Spent, NeverOpens}
 use Rattle.passing.proofs.Digits.{clears-fewer}
 use Rattle.passing.proofs.Counter.{left-counter, not-first, not-rest}
-use Rattle.passing.proofs.Steps.{maskOf, Leaves, alone, less, leaves, Went, begun-anew, cleared, first-right, second-right, stayed-open, went}
+use Rattle.passing.proofs.Steps.{maskOf, Leaves, alone, less, leaves, StageMove, begun-anew, cleared, first-right, second-right, stayed-open, stage-move}
 
 -- ---- the bits of the counter
 
@@ -52,7 +52,7 @@ none-cleared c m n (less f t x y) (inl z) =
 none-cleared c m n (less f t x y) (inr z) = absurd (omega (arith, eqb-true (bitAt (c .bits) counter) 1 f))
 
 -- and no step is taken
-stays-fresh : {s : Stage} {x y z : Bool} {n : Stage} → Went s x y z n → s ≡ Fresh → x ≡ false → n ≡ Fresh
+stays-fresh : {s : Stage} {x y z : Bool} {n : Stage} → StageMove s x y z n → s ≡ Fresh → x ≡ false → n ≡ Fresh
 stays-fresh begun-anew e f = refl
 stays-fresh (cleared t) e f = cc
 stays-fresh (first-right s t) e f = cc
@@ -63,7 +63,7 @@ spent-step : (c : Card) (e : Record) → Spent c → Spent (step c e)
 spent-step c e s =
     let f : isOpen (c .stage) ≡ false = ap isOpen (s .0) in
     let x = none-cleared c (maskOf e) (step c e) (leaves c e f) (s .1) in
-    (stays-fresh (went c e) (s .0) (x .0), x .1)
+    (stays-fresh (stage-move c e) (s .0) (x .0), x .1)
 
 never : (c : Card) (es : List Record) → Spent c → (n : ℕ) → isOpen (after c es n .stage) ≡ false
 unfolding run
