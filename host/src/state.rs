@@ -32,13 +32,13 @@ pub struct State {
     pub second: u8,
     /// The third byte after the instruction.
     pub third: u8,
-    /// The operation in progress: 0 none, 1 read, 2 program, 3 erase.
+    /// The operation in progress: 0 none, 1 read, 2 program, 3 erase, 4 reset.
     pub job: u8,
     /// The code of the instruction under way, or [`State::IGNORED`].
     pub instruction: u16,
     /// The next column.
     pub column: u16,
-    /// The row of the operation; 0 while idle.
+    /// The row of the operation; 0 while idle and during a reset.
     pub row: u16,
     /// The units that the operation has done; 0 while idle.
     pub units: usize,
@@ -53,6 +53,8 @@ pub enum Job {
     Program,
     /// A block becomes FFh.
     Erase,
+    /// A reset takes its 8 units, and touches no memory. It has no row.
+    Reset,
 }
 
 impl Job {
@@ -62,6 +64,7 @@ impl Job {
             Job::Read => 1,
             Job::Program => 2,
             Job::Erase => 3,
+            Job::Reset => 4,
         }
     }
 }
@@ -71,7 +74,7 @@ impl Job {
 pub struct Operation {
     /// What is done.
     pub job: Job,
-    /// The row it was begun for.
+    /// The row it was begun for; 0 for a reset.
     pub row: u16,
     /// The units done so far.
     pub units: usize,
@@ -135,6 +138,7 @@ impl State {
             1 => Job::Read,
             2 => Job::Program,
             3 => Job::Erase,
+            4 => Job::Reset,
             _ => return None,
         };
         Some(Operation {

@@ -197,6 +197,7 @@ fn job(code: u32) -> Result<u8, String> {
         0x13 => Ok(1),
         0x10 => Ok(2),
         0xD8 => Ok(3),
+        0xFF => Ok(4),
         _ => Err(format!("no operation has the code {code:X}")),
     }
 }
@@ -238,6 +239,7 @@ fn operation(state: &State) -> String {
         Job::Read => "reads",
         Job::Program => "programs",
         Job::Erase => "erases",
+        Job::Reset => "resets",
     };
     format!("{verb} {} {}", operation.row, operation.units)
 }

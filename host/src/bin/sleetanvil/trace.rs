@@ -451,6 +451,7 @@ impl<W: Write> Tracer<W> {
             Job::Read => format!("read of row {row}"),
             Job::Program => format!("program of row {row}"),
             Job::Erase => format!("erase of block {}", block(row, self.device.geometry())),
+            Job::Reset => "reset".into(),
         }
     }
 
@@ -501,6 +502,7 @@ fn length(job: Job, geometry: &Geometry) -> usize {
     match job {
         Job::Read | Job::Program => geometry.cache_len(),
         Job::Erase => geometry.cache_len() * geometry.pages as usize,
+        Job::Reset => 8,
     }
 }
 
