@@ -7,7 +7,7 @@ use Rattle.part.specs.Part.{page, rows, block, Sound}
 use Rattle.part.specs.declared.Geometry.{Geometry}
 use Rattle.part.specs.declared.Row.{Row}
 use Rattle.array.specs.declared.Job.{Job}
-use Rattle.array.specs.declared.Job.the-variants.{Read, Program, Erase}
+use Rattle.array.specs.declared.Job.the-variants.{Read, Program, Erase, Restart}
 use Rattle.array.specs.Jobs.{pageAt, blockAt, lengthOf}
 
 -- of many stretches of one length, each lies within all of them
@@ -43,3 +43,4 @@ pub length-small : (g : Geometry) (j : Job) → Sound g → lengthOf g j ≤ 104
 length-small g (Read r) s = omega (arith, s .small-page)
 length-small g (Program r) s = omega (arith, s .small-page)
 length-small g (Erase r) s = block-small g s
+length-small g Restart s = omega arith

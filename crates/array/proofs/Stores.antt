@@ -1,7 +1,7 @@
 -- Units on a page, a block or the cache are units of the operation on cells and cache.
 use mathlib.Core.List.{List, _++_}
 use mathlib.Core.Path.{_≡_, refl, ap, _∙_}
-use Prim.Native.Nat.{ℕ, _+_, _≤_, _<_}
+use Prim.Native.Nat.{ℕ, zero, suc, _+_, _≤_, _<_}
 use lib.Bits.{bitAnd}
 use lib.ListN.{getD, take, drop, set}
 use lib.Seq.{getD-take, getD-drop}
@@ -9,7 +9,7 @@ use borrow.Author.Tests.{lt-ltb, le-ltb}
 use Rattle.part.specs.Part.{rows}
 use Rattle.part.specs.declared.Geometry.{Geometry}
 use Rattle.part.specs.declared.Row.{Row}
-use Rattle.array.specs.declared.Job.the-variants.{Read, Program, Erase}
+use Rattle.array.specs.declared.Job.the-variants.{Read, Program, Erase, Restart}
 use Rattle.array.specs.Jobs.{Store, store, pageAt, blockAt, written, steps}
 use Rattle.array.proofs.Steps.{beside, laid-back}
 
@@ -41,3 +41,9 @@ module _ (g : Geometry) (r : Row) (cells cache : List ℕ) (k n i : ℕ) (few : 
   erase-in =
       ap (λ (l : List ℕ). store l cache) (laid-back (blockAt g r) k (λ j v. 0xFF) n i cells few)
       ∙ same _ (written g (Erase r)) (λ l. store l cache) k (λ j l q. refl) n i cells few
+
+-- the units of a reset write nothing
+pub restart-none : (g : Geometry) (n i : ℕ) (s : Store) → steps (written g Restart) i n s ≡ s
+unfolding steps written
+restart-none g zero i s = refl
+restart-none g (suc n) i s = restart-none g n (suc i) s

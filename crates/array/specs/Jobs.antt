@@ -11,7 +11,7 @@ use Rattle.part.specs.Part.{page, rows, place, block, Sound}
 use Rattle.part.specs.declared.Geometry.{Geometry}
 use Rattle.part.specs.declared.Row.{Row}
 use Rattle.array.specs.declared.Job.{Job}
-use Rattle.array.specs.declared.Job.the-variants.{Read, Program, Erase}
+use Rattle.array.specs.declared.Job.the-variants.{Read, Program, Erase, Restart}
 use Rattle.array.specs.declared.Work.{Work}
 use Rattle.array.specs.declared.Work.the-variants.{Idle, Busy}
 
@@ -40,11 +40,12 @@ blockAt g r = block g r * (g .pages * page g)
 abbrev pub inside : Geometry → Row → Bool
 inside g r = ltb (r .0) (rows g)
 
--- read, P units; program, P units; erase, K·P units
+-- read, P units; program, P units; erase, K·P units; a reset 8 (document 02, item 2)
 abbrev pub lengthOf : Geometry → Job → ℕ
 lengthOf g (Read r) = page g
 lengthOf g (Program r) = page g
 lengthOf g (Erase r) = g .pages * page g
+lengthOf g Restart = 8
 
 -- read: cache byte i takes the cell; FFh if the row is outside the array
 abbrev pub taken : Geometry → Row → ℕ → Store → Store
@@ -58,11 +59,12 @@ anded g r i s = let p = pageAt g r + i in withCells (set (s .cells) p (bitAnd (g
 abbrev pub blanked : Geometry → Row → ℕ → Store → Store
 blanked g r i s = withCells (set (s .cells) (blockAt g r + i) 0xFF) s
 
--- what unit i of an operation writes
+-- what unit i of an operation writes; a reset's touches no cell and no cache byte
 unfoldable pub written : Geometry → Job → ℕ → Store → Store
 written g (Read r) i s = taken g r i s
 written g (Program r) i s = anded g r i s
 written g (Erase r) i s = blanked g r i s
+written g Restart i s = s
 
 -- step i, step i + 1 and so on, n of them
 unfoldable pub steps : {A : Type 0} → (ℕ → A → A) → ℕ → ℕ → A → A
@@ -82,6 +84,7 @@ abbrev pub InArray : Geometry → Job → Type 0
 InArray g (Read r) = Unit {0}
 InArray g (Program r) = r .0 < rows g
 InArray g (Erase r) = r .0 < rows g
+InArray g Restart = Unit {0}
 
 pub record Going (g : Geometry) (j : Job) (i : ℕ) : Type 0 where
   pub unit-left : i < lengthOf g j

@@ -9,12 +9,16 @@ use part::Column;
 use part::Geometry;
 use part::Row;
 
-// An operation, with its row.
+// An operation, with its row; a reset's own operation has none.
 pub enum Job {
     Read(Row),
     Program(Row),
     Erase(Row),
+    Restart,
 }
+
+// The units of a reset.
+pub const RESTART_UNITS: usize = 8;
 
 // The operation in progress with its units done, or none, and then nothing is left of the last one.
 pub enum Work {
@@ -91,6 +95,7 @@ pub fn length_of(g: Geometry, job: Job) -> usize
         Job::Read(_) => g.page(),
         Job::Program(_) => g.page(),
         Job::Erase(_) => part::wide(g.pages) * g.page(),
+        Job::Restart => RESTART_UNITS,
     }
 }
 
@@ -138,6 +143,7 @@ fn units(g: Geometry, job: Job, from: usize, to: usize, cells: &mut [u8], cache:
         Job::Read(row) => read(g, row, from, to, &*cells, cache),
         Job::Program(row) => program(g, row, from, to, cells, &*cache),
         Job::Erase(row) => erase(g, row, from, to, cells, &*cache),
+        Job::Restart => {}
     }
 }
 

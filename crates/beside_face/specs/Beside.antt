@@ -4,7 +4,7 @@ use Prim.Native.Nat.{ℕ}
 use lib.Dec.{eqb}
 use Rattle.part.specs.Choice.{if_then_else_}
 use Rattle.part.specs.declared.Geometry.{Geometry}
-use Rattle.array.specs.declared.Job.the-variants.{Read, Program, Erase}
+use Rattle.array.specs.declared.Job.the-variants.{Read, Program, Erase, Restart}
 use Rattle.face.specs.Face.{partOf, row, stateOf, standIn}
 use Rattle.face.specs.declared.CGeometry.{CGeometry}
 use Rattle.face.specs.declared.CState.{CState}
@@ -31,12 +31,13 @@ peekedOf g c cache = facePeek (peekOf (partOf g) (standIn (stateOf c)) cache)
 
 -- ---- the units of an operation
 
--- by the number of its job: 1 read, 2 program, 3 erase; 0 for any other
+-- by the number of its job: 1 read, 2 program, 3 erase, 4 reset; 0 for any other
 abbrev pub lengthAt : Geometry → ℕ → ℕ
 lengthAt g job =
     if eqb job 1 then operationLength g (Read (row 0))
     else if eqb job 2 then operationLength g (Program (row 0))
     else if eqb job 3 then operationLength g (Erase (row 0))
+    else if eqb job 4 then operationLength g Restart
     else 0
 
 -- those left; no state has none

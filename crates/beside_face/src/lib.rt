@@ -103,6 +103,7 @@ pub extern "C" fn sleet_operation_length(part: CGeometry, job: u8) -> usize
         1 => beside::operation_length(g, Job::Read(Row(0))),
         2 => beside::operation_length(g, Job::Program(Row(0))),
         3 => beside::operation_length(g, Job::Erase(Row(0))),
+        4 => beside::operation_length(g, Job::Restart),
         _ => 0,
     }
 }

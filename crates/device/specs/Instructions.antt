@@ -9,7 +9,7 @@ use Rattle.transfer.specs.Transfer.{shiftedIn, cached, rowOf, ends, full}
 use Rattle.transfer.specs.declared.Instruction.{Instruction}
 use Rattle.transfer.specs.declared.Instruction.the-variants.{Ignored, WriteEnable, WriteDisable, GetFeature, SetFeature, ReadId, PageRead, ReadCache, Load, LoadRandom, Execute, BlockErase, Reset}
 use Rattle.array.specs.Jobs.{withCache}
-use Rattle.array.specs.declared.Job.the-variants.{Read, Program, Erase}
+use Rattle.array.specs.declared.Job.the-variants.{Read, Program, Erase, Restart}
 use Rattle.array.specs.declared.Work.the-variants.{Idle}
 use Rattle.reply.specs.Reply.{byteOut}
 use Rattle.requests.specs.Requests.{begins?, programFate, eraseFate, counted, uncounted}
@@ -55,9 +55,9 @@ erases g arr r m =
 abbrev pub resetState : State → State
 resetState s = workIn Idle (statusIn (resetStatus (s .regs .c0)) s)
 
--- a reset stops an operation after the units done, and is over at once
+-- a reset stops an operation after the units done, another reset's too, and then is itself an operation (document 02, item 2)
 unfoldable pub resets : Array → Machine → Machine
-resets arr m = let m₁ = arr .cut m in withState (resetState (m₁ .state)) m₁
+resets arr m = let m₁ = arr .cut m in arr .begin Restart (withState (resetState (m₁ .state)) m₁)
 
 -- ---- 1Fh
 

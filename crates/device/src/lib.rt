@@ -146,19 +146,20 @@ impl State {
         s.begins(Job::Erase(row))
     }
 
-    // FFh: an operation in progress is stopped after the units done.
+    // FFh: an operation in progress is stopped after the units done, and the reset's own begins.
     fn resets(self) -> State
-        ensures { λ r. ⌜ r ≡ resetState self ⌝ }
+        ensures { λ r. ⌜ r ≡ begun Job.Restart (resetState self) ⌝ }
     {
         let r = self.regs;
-        State {
+        let s = State {
             regs: Registers {
                 c0: registers::reset_status(r.c0),
                 ..r
             },
             work: Work::Idle,
             ..self
-        }
+        };
+        s.begins(Job::Restart)
     }
 
     // What the instruction does, its bytes all there.

@@ -5,7 +5,7 @@ use Prim.Native.Nat.{ℕ, _≤_}
 use native.Mathlib.Omega.{arith}
 use lib.Dec.{eqb, leb}
 use borrow.Author.Tests.{eqb-true, eqb-false, leb-true}
-use Rattle.array.specs.declared.Job.the-variants.{Read, Program, Erase}
+use Rattle.array.specs.declared.Job.the-variants.{Read, Program, Erase, Restart}
 use Rattle.array.specs.declared.Work.{Work}
 use Rattle.array.specs.declared.Work.the-variants.{Idle, Busy}
 use Rattle.buslog.specs.declared.Record.the-variants as record-of
@@ -61,6 +61,7 @@ module _ (s : State) where
   back-with (Busy (Read r) u) = rw (code-known (s .bus .transfer .instruction), flag-low wp, flag-low on, flag-read wp, flag-read on)
   back-with (Busy (Program r) u) = rw (code-known (s .bus .transfer .instruction), flag-low wp, flag-low on, flag-read wp, flag-read on)
   back-with (Busy (Erase r) u) = rw (code-known (s .bus .transfer .instruction), flag-low wp, flag-low on, flag-read wp, flag-read on)
+  back-with (Busy Restart u) = rw (code-known (s .bus .transfer .instruction), flag-low wp, flag-low on, flag-read wp, flag-read on)
 
 pub state-back : StateBack
 unfolding faceOf
@@ -102,7 +103,10 @@ module _ (s : State) (k r u : ℕ) (w : Work) where
       (λ e2 h. let q : w ≡ Idle = cc in rw (q, eqb-true k 0 e, eqb-true r 0 e1, eqb-true u 0 e2)) nowhere) nowhere)
       (work-step (facedWork s w ≡ faced s k r u) (eqb k 1) _ _ w (λ e h. let q : w ≡ Busy (Read (row r)) u = cc in rw (q, eqb-true k 1 e))
       (work-step (facedWork s w ≡ faced s k r u) (eqb k 2) _ _ w (λ e h. let q : w ≡ Busy (Program (row r)) u = cc in rw (q, eqb-true k 2 e))
-      (work-step (facedWork s w ≡ faced s k r u) (eqb k 3) _ _ w (λ e h. let q : w ≡ Busy (Erase (row r)) u = cc in rw (q, eqb-true k 3 e)) nowhere)))
+      (work-step (facedWork s w ≡ faced s k r u) (eqb k 3) _ _ w (λ e h. let q : w ≡ Busy (Erase (row r)) u = cc in rw (q, eqb-true k 3 e))
+      (work-step (facedWork s w ≡ faced s k r u) (eqb k 4) _ _ w
+      (λ e. work-step (facedWork s w ≡ faced s k r u) (eqb r 0) _ _ w (λ e1 h. let q : w ≡ Busy Restart u = cc in rw (q, eqb-true k 4 e, eqb-true r 0 e1)) nowhere)
+      nowhere))))
 
 flag-back : (n : ℕ) → n ≤ 1 → flag (eqb n 1) ≡ n
 flag-back n h = go (eqb n 1) refl

@@ -7,7 +7,7 @@ use Rattle.part.specs.Part.{page, rows, soundPart}
 use Rattle.part.specs.declared.Geometry.{Geometry}
 use Rattle.part.specs.declared.Row.{Row}
 use Rattle.array.specs.declared.Job.{Job}
-use Rattle.array.specs.declared.Job.the-variants.{Read, Program, Erase}
+use Rattle.array.specs.declared.Job.the-variants.{Read, Program, Erase, Restart}
 use Rattle.array.specs.declared.Work.{Work}
 use Rattle.array.specs.declared.Work.the-variants.{Idle, Busy}
 use Rattle.transfer.specs.Transfer.{byteOf, fresh}
@@ -70,13 +70,14 @@ instructionAt k =
 abbrev pub row : ℕ → Row
 row r = record { 0 = r }
 
--- the operation: 0 none, and then no row and no units; 1 read, 2 program, 3 erase
+-- the operation: 0 none, and then no row and no units; 1 read, 2 program, 3 erase; 4 reset, and then no row
 abbrev pub workAt : ℕ → ℕ → ℕ → Doing
 workAt job r units =
     if eqb job 0 then (if eqb r 0 then (if eqb units 0 then Going Idle else Nowhere) else Nowhere)
     else if eqb job 1 then Going (Busy (Read (row r)) units)
     else if eqb job 2 then Going (Busy (Program (row r)) units)
     else if eqb job 3 then Going (Busy (Erase (row r)) units)
+    else if eqb job 4 then (if eqb r 0 then Going (Busy Restart units) else Nowhere)
     else Nowhere
 
 -- the state with an instruction and an operation; 1 is a flag that is set
@@ -152,6 +153,7 @@ abbrev pub facedJob : State → Job → ℕ → CState
 facedJob s (Read r) units = faced s 1 (r .0) units
 facedJob s (Program r) units = faced s 2 (r .0) units
 facedJob s (Erase r) units = faced s 3 (r .0) units
+facedJob s Restart units = faced s 4 0 units
 
 -- and idle, without row and units
 abbrev pub facedWork : State → Work → CState

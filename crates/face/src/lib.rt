@@ -218,6 +218,12 @@ fn work_at(job: u8, row: u16, units: usize) -> Doing
         1 => Doing::Going(Work::Busy(Job::Read(Row(row)), units)),
         2 => Doing::Going(Work::Busy(Job::Program(Row(row)), units)),
         3 => Doing::Going(Work::Busy(Job::Erase(Row(row)), units)),
+        4 => {
+            if row != 0 {
+                return Doing::Nowhere;
+            }
+            Doing::Going(Work::Busy(Job::Restart, units))
+        }
         _ => Doing::Nowhere,
     }
 }
@@ -314,6 +320,7 @@ fn faced_job(s: State, job: Job, units: usize) -> CState
         Job::Read(row) => faced(s, 1, row.0, units),
         Job::Program(row) => faced(s, 2, row.0, units),
         Job::Erase(row) => faced(s, 3, row.0, units),
+        Job::Restart => faced(s, 4, 0, units),
     }
 }
 

@@ -15,7 +15,7 @@ use Rattle.registers.specs.declared.Registers.{Registers}
 use Rattle.transfer.specs.declared.Transfer.{Transfer}
 use Rattle.array.specs.Jobs.{lengthOf, InArray, Going}
 use Rattle.array.specs.declared.Job.{Job}
-use Rattle.array.specs.declared.Job.the-variants.{Read, Program, Erase}
+use Rattle.array.specs.declared.Job.the-variants.{Read, Program, Erase, Restart}
 use Rattle.array.specs.declared.Work.{Work}
 use Rattle.array.specs.declared.Work.the-variants.{Idle, Busy}
 use Rattle.soundness.specs.Soundness.{Within, HighSound, InProgress, WorkSound, letIn, within, highSound, registersSound, transferSound, inArray, workSound, calm}
@@ -44,6 +44,7 @@ in-array-T : (g : Geometry) (j : Job) → T (inArray g j) ↔ InArray g j
 in-array-T g (Read r) = (λ t. tt, λ t. tt)
 in-array-T g (Program r) = lt-T (r .0) (rows g)
 in-array-T g (Erase r) = lt-T (r .0) (rows g)
+in-array-T g Restart = (λ t. tt, λ t. tt)
 
 -- OIP is 1 exactly when an operation is in progress, and that is sound
 work-T : (g : Geometry) (c : ℕ) (w : Work) → T (workSound g c w) ↔ ((T (oip c) ↔ InProgress w) × WorkSound g w)

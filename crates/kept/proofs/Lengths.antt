@@ -14,16 +14,17 @@ use Rattle.transfer.specs.declared.Bus.{Bus}
 use Rattle.transfer.specs.declared.Transfer.{Transfer}
 use Rattle.array.specs.Jobs.{Store, written, Fits}
 use Rattle.array.specs.declared.Job.{Job}
-use Rattle.array.specs.declared.Job.the-variants.{Read, Program, Erase}
+use Rattle.array.specs.declared.Job.the-variants.{Read, Program, Erase, Restart}
 use Rattle.requests.specs.Requests.{counted, uncounted}
 use Rattle.kept.proofs.Made.{fits-cells, fits-cache}
 
--- a unit writes one byte
+-- a unit writes one byte, or none
 pub written-fits : (g : Geometry) (j : Job) (i : ℕ) (s : Store) → Fits g s → Fits g (written g j i s)
 unfolding written
 written-fits g (Read r) i s f = fits-cache g _ s (simp length-set (f .cache-long)) f
 written-fits g (Program r) i s f = fits-cells g _ s (simp length-set (f .cells-long)) f
 written-fits g (Erase r) i s f = fits-cells g _ s (simp length-set (f .cells-long)) f
+written-fits g Restart i s f = f
 
 -- ---- the cache register
 

@@ -14,9 +14,10 @@ use Rattle.transfer.specs.Transfer.{rowOf, full}
 use Rattle.transfer.specs.declared.Transfer.{Transfer}
 use Rattle.transfer.specs.declared.Instruction.{Instruction}
 use Rattle.transfer.specs.declared.Instruction.the-variants.{Ignored, WriteEnable, WriteDisable, GetFeature, SetFeature, ReadId, PageRead, ReadCache, Load, LoadRandom, Execute, BlockErase, Reset}
-use Rattle.array.specs.declared.Job.the-variants.{Read, Program, Erase}
+use Rattle.array.specs.declared.Job.the-variants.{Read, Program, Erase, Restart}
+use Rattle.array.specs.declared.Work.the-variants.{Idle}
 use Rattle.soundness.specs.Soundness.{HighSound}
-use Rattle.device.specs.Machine.{Machine, withStatus, withCounts}
+use Rattle.device.specs.Machine.{Machine, withStatus, withWork, withCounts}
 use Rattle.device.specs.Work.{begins, stepping}
 use Rattle.requests.specs.declared.Fate.{Fate}
 use Rattle.requests.specs.Requests.{begins?, programFate, eraseFate, counted, uncounted}
@@ -81,7 +82,9 @@ module _ (g : Geometry) (s : Sound g) where
   effect-sane PageRead m h = begun-sane g s (Read (rowOf (m .state .bus .transfer))) m tt h
   effect-sane Execute m h = programs-sane (rowOf (m .state .bus .transfer)) m h
   effect-sane BlockErase m h = erases-sane (rowOf (m .state .bus .transfer)) m h
-  effect-sane Reset m h = let c = m .state .regs .c0 in idle-sane g (resetStatus c) m (subst HighSound (reset-none c) none-high) (omega arith) h
+  effect-sane Reset m h =
+      let c = m .state .regs .c0 in
+      begun-sane g s Restart (withWork Idle (withStatus (resetStatus c) m)) tt (idle-sane g (resetStatus c) m (subst HighSound (reset-none c) none-high) (omega arith) h)
   effect-sane Ignored m h = h
   effect-sane GetFeature m h = h
   effect-sane ReadId m h = h

@@ -14,7 +14,7 @@ use Rattle.registers.specs.Registers.{oipSet, oipCleared}
 use Rattle.registers.specs.declared.Registers.{Registers}
 use Rattle.array.specs.Jobs.{Store, lengthOf, written, InArray, Going, Fits}
 use Rattle.array.specs.declared.Job.{Job}
-use Rattle.array.specs.declared.Job.the-variants.{Read, Program, Erase}
+use Rattle.array.specs.declared.Job.the-variants.{Read, Program, Erase, Restart}
 use Rattle.array.specs.declared.Work.{Work}
 use Rattle.array.specs.declared.Work.the-variants.{Idle, Busy}
 use Rattle.soundness.specs.Soundness.{HighSound}
@@ -81,6 +81,7 @@ has-unit : (g : Geometry) → Sound g → (j : Job) → 0 < lengthOf g j
 has-unit g s (Read r) = omega (arith, s .some-bytes)
 has-unit g s (Program r) = omega (arith, s .some-bytes)
 has-unit g s (Erase r) = omega (arith, s .some-bytes, mul-le-mul-right (page g) (s .some-pages))
+has-unit g s Restart = omega arith
 
 pub begun-sane : (g : Geometry) → Sound g → (j : Job) (m : Machine) → InArray g j → Sane g m → Sane g (begins j m)
 begun-sane g s j m a h =

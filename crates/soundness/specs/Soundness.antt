@@ -11,7 +11,7 @@ use Rattle.transfer.specs.Transfer.{noByte, is}
 use Rattle.transfer.specs.declared.Transfer.{Transfer}
 use Rattle.array.specs.Jobs.{lengthOf, inside, Going}
 use Rattle.array.specs.declared.Job.{Job}
-use Rattle.array.specs.declared.Job.the-variants.{Read, Program, Erase}
+use Rattle.array.specs.declared.Job.the-variants.{Read, Program, Erase, Restart}
 use Rattle.array.specs.declared.Work.{Work}
 use Rattle.array.specs.declared.Work.the-variants.{Idle, Busy}
 
@@ -62,6 +62,7 @@ abbrev pub inArray : Geometry → Job → Bool
 inArray g (Read r) = true
 inArray g (Program r) = inside g r
 inArray g (Erase r) = inside g r
+inArray g Restart = true
 
 -- OIP is 1 exactly when an operation is in progress, and it is sound
 abbrev pub workSound : Geometry → ℕ → Work → Bool

@@ -68,6 +68,7 @@ fn unit_left(g: Geometry, job: Job, done: usize) -> bool
             }
             done / p < part::wide(g.pages)
         }
+        Job::Restart => done < array::RESTART_UNITS,
     }
 }
 
@@ -79,6 +80,7 @@ fn in_array(g: Geometry, job: Job) -> bool
         Job::Read(_) => true,
         Job::Program(row) => part::wide_short(row.0) < g.rows(),
         Job::Erase(row) => part::wide_short(row.0) < g.rows(),
+        Job::Restart => true,
     }
 }
 

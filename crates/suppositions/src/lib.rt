@@ -91,6 +91,7 @@ fn first_read(w: Work) -> bool
             Job::Read(row) => both(row.0 == 0, done == 0),
             Job::Program(_) => false,
             Job::Erase(_) => false,
+            Job::Restart => false,
         },
     }
 }

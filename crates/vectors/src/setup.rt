@@ -170,6 +170,7 @@ impl Setup {
             0x13 => Work::Busy(Job::Read(row), units),
             0x10 => Work::Busy(Job::Program(row), units),
             0xD8 => Work::Busy(Job::Erase(row), units),
+            0xFF => Work::Busy(Job::Restart, units),
             _ => Work::Idle,
         }
     }

@@ -157,6 +157,7 @@ fn job(j: Job, units: usize) {
         Job::Read(row) => running(b" reads ", row.0, units),
         Job::Program(row) => running(b" programs ", row.0, units),
         Job::Erase(row) => running(b" erases ", row.0, units),
+        Job::Restart => running(b" resets ", 0, units),
     }
 }
 

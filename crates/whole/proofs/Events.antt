@@ -13,10 +13,10 @@ use Rattle.part.specs.declared.Row.{Row}
 use Rattle.part.proofs.Choice.{cond-two, true-T}
 use Rattle.buslog.specs.declared.Record.{Record}
 use Rattle.buslog.specs.declared.Record.the-variants.{Select, Shift, Deselect, Units, Level, Power}
-use Rattle.registers.specs.Registers.{oip, wel, requestCleared, eFailSet, pFailSet}
+use Rattle.registers.specs.Registers.{oip, wel, requestCleared, eFailSet, pFailSet, resetStatus}
 use Rattle.array.specs.Jobs.{withCache, Fits}
 use Rattle.array.specs.declared.Job.{Job}
-use Rattle.array.specs.declared.Job.the-variants.{Read, Program, Erase}
+use Rattle.array.specs.declared.Job.the-variants.{Read, Program, Erase, Restart}
 use Rattle.array.specs.declared.Work.{Work}
 use Rattle.array.specs.declared.Work.the-variants.{Idle, Busy}
 use Rattle.transfer.specs.Transfer.{rowOf, full, ends, shiftedIn}
@@ -114,7 +114,7 @@ module _ (g : Geometry) (s : Sound g) where
   effect-idle WriteEnable m h = refl
   effect-idle WriteDisable m h = refl
   effect-idle SetFeature m h = refl
-  effect-idle Reset m h = refl
+  effect-idle Reset m h = finish-begun g s Restart tt (withStatus (resetStatus (m .state .regs .c0)) m) (h .fits) (omega arith)
   effect-idle Ignored m h = refl
   effect-idle GetFeature m h = refl
   effect-idle ReadId m h = refl

@@ -15,10 +15,11 @@ use Rattle.part.specs.declared.Row.{Row}
 use Rattle.buslog.specs.Write.{over}
 use Rattle.array.specs.Jobs.{Store, store, pageAt, blockAt, lengthOf, written, steps, InArray, Fits}
 use Rattle.array.specs.declared.Job.{Job}
-use Rattle.array.specs.declared.Job.the-variants.{Read, Program, Erase}
+use Rattle.array.specs.declared.Job.the-variants.{Read, Program, Erase, Restart}
 use Rattle.array.proofs.Room.{page-in, block-in}
-use Rattle.array.proofs.Stores.{read-in, read-out, program-in, erase-in}
-use Rattle.whole.specs.Whole.{ands, pageOf, done}
+use Rattle.array.proofs.Stores.{read-in, read-out, program-in, erase-in, restart-none}
+use Rattle.device.specs.Instructions.{resets}
+use Rattle.whole.specs.Whole.{ands, pageOf, done, whole, ResetWhole}
 
 -- ---- a byte after another, from the first to the last of a list
 
@@ -116,6 +117,15 @@ module _ (g : Geometry) (r : Row) (s : Store) (sound : Sound g) (f : Fits g s) w
       (all (g .pages * page g) of-block (λ i x. 0xFF) (block-long h) ∙ values-same 0xFF of-block ∙ ap (λ (n : ℕ). replicate n 0xFF) (block-long h))
       ∙ stretch (blockAt g r) (g .pages * page g) (s .cells) (replicate (g .pages * page g) 0xFF) (length-replicate (g .pages * page g) 0xFF))
 
+-- a reset, to its end
+restart-whole : (g : Geometry) (s : Store) → steps (written g Restart) 0 8 s ≡ done g Restart s
+unfolding done
+restart-whole g s = restart-none g 8 0 s
+
+pub reset-whole : ResetWhole
+unfolding resets whole done
+reset-whole g m = refl
+
 -- all the units of an operation, in one sentence
 pub units-whole : (g : Geometry) → Sound g → (j : Job) → InArray g j → (s : Store) → Fits g s → steps (written g j) 0 (lengthOf g j) s ≡ done g j s
 units-whole g sound (Read r) a s f = go (ltb (r .0) (rows g)) refl
@@ -125,3 +135,4 @@ units-whole g sound (Read r) a s f = go (ltb (r .0) (rows g)) refl
     go false e = read-outside g r s sound f (ltb-false (r .0) (rows g) e)
 units-whole g sound (Program r) a s f = program-whole g r s sound f a
 units-whole g sound (Erase r) a s f = erase-whole g r s sound f a
+units-whole g sound Restart a s f = restart-whole g s

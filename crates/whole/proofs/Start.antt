@@ -12,7 +12,7 @@ use Rattle.part.proofs.Choice.{cond-keep, T-true, true-T, and-l, and-r}
 use Rattle.buslog.specs.declared.Record.the-variants.{Units}
 use Rattle.registers.specs.declared.Registers.{Registers}
 use Rattle.array.specs.Jobs.{Store, Fits, lengthOf}
-use Rattle.array.specs.declared.Job.the-variants.{Read, Program, Erase}
+use Rattle.array.specs.declared.Job.the-variants.{Read, Program, Erase, Restart}
 use Rattle.array.specs.declared.Work.{Work}
 use Rattle.array.specs.declared.Work.the-variants.{Idle, Busy}
 use Rattle.transfer.specs.Transfer.{byteOf, fresh}
@@ -62,6 +62,7 @@ work-up (Busy (Read r) i) t =
     rw (eqb→eq i 0 (p .1)) (ap (λ (k : ℕ). Busy (Read (record { 0 = k })) 0) (eqb→eq (r .0) 0 (p .0)))
 work-up (Busy (Program r) i) t = absurd t
 work-up (Busy (Erase r) i) t = absurd t
+work-up (Busy Restart i) t = absurd t
 
 up : (s : State) → T (powerUp? s) → s ≡ powerUpAt (s .bus .pins .wp)
 up s t =

@@ -13,6 +13,7 @@ use Rattle.array.specs.declared.Work.the-variants.{Busy}
 use Rattle.device.specs.Machine.{workIn, statusIn}
 use Rattle.device.specs.Step.{powerUp}
 use Rattle.device.specs.declared.State.{State}
+use Rattle.cases.specs.AfterReset.{reset}
 use Rattle.cases.specs.Cases.{Case, _·_⇒_, send, blank, told, idleWith, number, sameList, wrong}
 use Rattle.refusals.specs.Refusals.{numberOf}
 use Rattle.whole.specs.Orderly.{idle, orderly, powerUpAt, starts}
@@ -72,15 +73,18 @@ rows =
     ∷ 2 · verdicts (on (powerUpAt false) (Units 7 ∷ Units 13 ∷ [])) ⇒ (0 ∷ 1 ∷ 1 ∷ 1 ∷ 1 ∷ [])
     ∷ 3 · verdicts (on (workIn (Busy (Erase (record { 0 = 5 })) 30) (statusIn 1 enabled)) (Units 50 ∷ [])) ⇒ (0 ∷ 0 ∷ 1 ∷ 1 ∷ 0 ∷ [])
     ∷ 4 · verdicts (on powerUp (send (0x06 ∷ []) ++ Units 20 ∷ [])) ⇒ (0 ∷ 1 ∷ 0 ∷ 1 ∷ 0 ∷ [])
-    ∷ 5 · verdicts (on enabled (erase ++ send (0xFF ∷ []))) ⇒ (0 ∷ 1 ∷ 0 ∷ 1 ∷ 0 ∷ [])
+    ∷ 5 · verdicts (on enabled (erase ++ reset ++ Units 8 ∷ [])) ⇒ (0 ∷ 1 ∷ 0 ∷ 1 ∷ 0 ∷ [])
     ∷ 6 · verdicts (on enabled (erase ++ Power ∷ Units 20 ∷ [])) ⇒ (0 ∷ 1 ∷ 0 ∷ 1 ∷ 0 ∷ [])
     ∷ 7 · verdicts (on enabled erase) ⇒ (0 ∷ 1 ∷ 1 ∷ 0 ∷ 0 ∷ [])
     ∷ 8 · (let i = on powerUp (Units 3 ∷ poll ++ Units 17 ∷ []) in verdicts i ++ take 3 (endOf i .out) ++ wholly i .output)
     ⇒ (0 ∷ 1 ∷ 1 ∷ 1 ∷ 1 ∷ 0xFF ∷ 0xFF ∷ 0x01 ∷ 0xFF ∷ 0xFF ∷ 0x00 ∷ [])
+    ∷ 9 · verdicts (on enabled (reset ++ Units 3 ∷ poll ++ Units 9 ∷ send (0x04 ∷ []))) ⇒ (0 ∷ 1 ∷ 1 ∷ 1 ∷ 1 ∷ [])
+    ∷ 10 · verdicts (on enabled (reset ++ Units 5 ∷ reset ++ Units 8 ∷ [])) ⇒ (0 ∷ 1 ∷ 0 ∷ 1 ∷ 1 ∷ [])
     ∷ []
 
--- each row is judged as it says. 1 and 2: a driver's log, and the power-up read alone with WP# low, meet every supposition. 3: begun in mid-operation; 4: an instruction begun while busy; 5: a
--- reset while busy; 6: a power loss while busy; 7: ending busy: each lacks one supposition alone, and its two ends differ. 8: the status
--- answers themselves may differ.
+-- each row is judged as it says. 1 and 2: a driver's log, and the power-up read alone with WP# low, meet every supposition. 3: begun in
+-- mid-operation; 4: an instruction begun while busy; 5: a reset that cuts an erase; 6: a power loss that does; 7: ending busy: each lacks one
+-- supposition alone, and its two ends differ. 8: the status answers themselves may differ. 9: a reset while idle, with its own units, meets
+-- every supposition. 10: a reset within a reset does not, by the letter ("while the array is busy"), though its two ends are one.
 abbrev pub NoneToSpare : Type 0
 NoneToSpare = wrong rows ≡ []

@@ -6,7 +6,7 @@ use lib.Dec.{eqb, leb}
 use Rattle.part.specs.declared.Geometry.{Geometry}
 use Rattle.buslog.specs.declared.Record.{Record}
 use Rattle.buslog.specs.declared.Record.the-variants.{Select, Shift, Deselect, Units, Level, Power}
-use Rattle.array.specs.declared.Job.the-variants.{Read, Program, Erase}
+use Rattle.array.specs.declared.Job.the-variants.{Read, Program, Erase, Restart}
 use Rattle.array.specs.declared.Work.{Work}
 use Rattle.array.specs.declared.Work.the-variants.{Idle, Busy}
 use Rattle.registers.specs.declared.Registers.{Registers}
@@ -68,6 +68,7 @@ firstRead Idle = false
 firstRead (Busy (Read r) i) = eqb (r .0) 0 && eqb i 0
 firstRead (Busy (Program r) i) = false
 firstRead (Busy (Erase r) i) = false
+firstRead (Busy Restart i) = false
 
 -- the registers have their power-up values, the transfer is as power-up leaves it
 abbrev pub upRegisters : Registers → Bool

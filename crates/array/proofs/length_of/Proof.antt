@@ -1,4 +1,4 @@
--- `length_of`: a read and a program have a page's bytes, an erase a block's.
+-- `length_of`: a read and a program have a page's bytes, an erase a block's, a reset 8 units.
 use native.Mathlib.Omega.{arith}
 use borrow.Author.Needs.{needs}
 use Rattle.array.proofs.Room.{block-small}
@@ -29,6 +29,9 @@ page-requires-3 c κs = search needs
 mul-result : tie.Need-mul-result
 mul-result c = rw (c .before .wide .ensures, c .page3 .ensures) (omega (arith, block-small (c .before .before .before .before .args .g) (c .before .before .before .before .pre)))
 
+enum-told-4 : tie.Need-enum-told-4
+enum-told-4 c = search needs
+
 returns : tie.Need-returns
 returns c = rw (c .page .ensures, c .before .enum-told .given .1)
 
@@ -37,6 +40,9 @@ returns-2 c = rw (c .page2 .ensures, c .before .enum-told2 .given .1)
 
 returns-3 : tie.Need-returns-3
 returns-3 c = rw (c .before .wide .ensures, c .page3 .ensures, c .before .before .enum-told3 .given .1)
+
+returns-4 : tie.Need-returns-4
+returns-4 c = rw (c .enum-told4 .given .1)
 
 pub length-of-spec : {M : Type 1} → statement M
 length-of-spec =
@@ -50,6 +56,8 @@ length-of-spec =
     wide-requires
     page-requires-3
     mul-result
+    enum-told-4
     returns
     returns-2
-    returns-3)
+    returns-3
+    returns-4)

@@ -1,5 +1,10 @@
--- `units`: each operation by its own function.
+-- `units`: each operation by its own function; a reset's units by none.
+use mathlib.Core.Path.{sym}
+use Prim.Native.Nat.{_-_}
+use denote.Ref.{now}
 use borrow.Author.Needs.{needs}
+use Rattle.array.specs.Jobs.{store}
+use Rattle.array.proofs.Stores.{restart-none}
 use Rattle.array.proofs.units.Statement.{statement}
 use Rattle.array.proofs.units.Tie as tie
 
@@ -20,6 +25,9 @@ enum-known-job-3 c = search needs
 
 erase-requires : tie.Need-erase-requires
 erase-requires c κs = rw (c .before .before .before .job3 .given .1) at (c .before .before .before .before .before .before .before .pre)
+
+enum-told : tie.Need-enum-told
+enum-told c = search needs
 
 same-length : tie.Need-same-length
 same-length c = search needs
@@ -48,6 +56,11 @@ same-length-6 c = search needs
 returns-3 : tie.Need-returns-3
 returns-3 c = rw (c .before .before .before .before .before .before .job3 .given .1) (c .before .before .erase .ensures)
 
+returns-4 : tie.Need-returns-4
+returns-4 c =
+    let a = c .before .before .before .before .args in
+    rw (c .enum-told .given .1) (sym (restart-none (a .g) (a .to - a .from) (a .from) (store (now (a .cells)) (now (a .cache)))))
+
 pub units-spec : {M : Type 1} → statement M
 units-spec =
     tie.close
@@ -58,6 +71,7 @@ units-spec =
     program-requires
     enum-known-job-3
     erase-requires
+    enum-told
     same-length
     same-length-2
     returns
@@ -66,4 +80,5 @@ units-spec =
     returns-2
     same-length-5
     same-length-6
-    returns-3)
+    returns-3
+    returns-4)

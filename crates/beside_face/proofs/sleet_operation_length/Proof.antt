@@ -16,6 +16,9 @@ operation-length-requires-2 c κs = search needs
 operation-length-requires-3 : tie.Need-operation-length-requires-3
 operation-length-requires-3 c κs = search needs
 
+operation-length-requires-4 : tie.Need-operation-length-requires-4
+operation-length-requires-4 c κs = search needs
+
 returns : tie.Need-returns
 returns c = rw (c .operation-length .ensures, c .before .before .part-of .ensures, c .before .match .keys1)
 
@@ -26,7 +29,10 @@ returns-3 : tie.Need-returns-3
 returns-3 c = rw (c .operation-length3 .ensures, c .before .before .part-of .ensures, c .before .match .keys3)
 
 returns-4 : tie.Need-returns-4
-returns-4 c = rw (ne-eqb _ _ (c .match .rest .0 .0 .1), ne-eqb _ _ (c .match .rest .0 .1), ne-eqb _ _ (c .match .rest .1))
+returns-4 c = rw (c .operation-length4 .ensures, c .before .before .part-of .ensures, c .before .match .keys4)
+
+returns-5 : tie.Need-returns-5
+returns-5 c = rw (ne-eqb _ _ (c .match .rest .0 .0 .0 .1), ne-eqb _ _ (c .match .rest .0 .0 .1), ne-eqb _ _ (c .match .rest .0 .1), ne-eqb _ _ (c .match .rest .1))
 
 pub sleet-operation-length-spec : {M : Type 1} → statement M
 sleet-operation-length-spec =
@@ -36,7 +42,9 @@ sleet-operation-length-spec =
     operation-length-requires
     operation-length-requires-2
     operation-length-requires-3
+    operation-length-requires-4
     returns
     returns-2
     returns-3
-    returns-4)
+    returns-4
+    returns-5)

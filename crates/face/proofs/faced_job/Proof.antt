@@ -21,6 +21,12 @@ enum-known-job-3 c = search needs
 faced-requires-3 : tie.Need-faced-requires-3
 faced-requires-3 c κs = search needs
 
+enum-told : tie.Need-enum-told
+enum-told c = search needs
+
+faced-requires-4 : tie.Need-faced-requires-4
+faced-requires-4 c κs = search needs
+
 returns : tie.Need-returns
 returns c = rw (c .faced .ensures, c .before .before .job .given .1)
 
@@ -29,6 +35,9 @@ returns-2 c = rw (c .faced2 .ensures, c .before .before .job2 .given .1)
 
 returns-3 : tie.Need-returns-3
 returns-3 c = rw (c .faced3 .ensures, c .before .before .job3 .given .1)
+
+returns-4 : tie.Need-returns-4
+returns-4 c = rw (c .faced4 .ensures, c .before .enum-told .given .1)
 
 pub faced-job-spec : {M : Type 1} → statement M
 faced-job-spec =
@@ -40,6 +49,9 @@ faced-job-spec =
     faced-requires-2
     enum-known-job-3
     faced-requires-3
+    enum-told
+    faced-requires-4
     returns
     returns-2
-    returns-3)
+    returns-3
+    returns-4)

@@ -24,6 +24,9 @@ wide-short-requires-2 c κs = search needs
 rows-requires-2 : tie.Need-rows-requires-2
 rows-requires-2 c κs = search needs
 
+enum-told-2 : tie.Need-enum-told-2
+enum-told-2 c = search needs
+
 returns : tie.Need-returns
 returns c = search needs
 
@@ -32,6 +35,9 @@ returns-2 c = rw (c .before .before .before .job .given .1, c .rows .ensures, c 
 
 returns-3 : tie.Need-returns-3
 returns-3 c = rw (c .before .before .before .job2 .given .1, c .rows2 .ensures, c .before .wide-short2 .ensures)
+
+returns-4 : tie.Need-returns-4
+returns-4 c = search needs
 
 pub in-array-spec : {M : Type 1} → statement M
 in-array-spec =
@@ -44,6 +50,8 @@ in-array-spec =
     enum-known-job-2
     wide-short-requires-2
     rows-requires-2
+    enum-told-2
     returns
     returns-2
-    returns-3)
+    returns-3
+    returns-4)

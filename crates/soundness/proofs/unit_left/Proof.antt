@@ -31,6 +31,9 @@ div-result c = search needs
 wide-requires : tie.Need-wide-requires
 wide-requires c κs = search needs
 
+enum-told-4 : tie.Need-enum-told-4
+enum-told-4 c = search needs
+
 returns-2 : tie.Need-returns-2
 returns-2 c = rw (c .enum-told .given .1, c .before .before .page .ensures)
 
@@ -41,6 +44,9 @@ returns-4 : tie.Need-returns-4
 returns-4 c =
     let pos : 0 < page (c .before .before .before .before .before .args .g) = omega (arith, c .before .before .before .before .page .ensures, c .before .if1 .left) in
     rw (c .before .before .enum-told3 .given .1, c .before .before .before .before .page .ensures, c .wide .ensures) (div-ltb (c .before .before .before .before .before .args .done) (page (c .before .before .before .before .before .args .g)) (c .before .before .before .before .before .args .g .pages) pos)
+
+returns-5 : tie.Need-returns-5
+returns-5 c = rw (c .enum-told4 .given .1)
 
 pub unit-left-spec : {M : Type 1} → statement M
 unit-left-spec =
@@ -53,6 +59,8 @@ unit-left-spec =
     returns
     div-result
     wide-requires
+    enum-told-4
     returns-2
     returns-3
-    returns-4)
+    returns-4
+    returns-5)

@@ -1,0 +1,44 @@
+-- What comes after a reset, from the law of n units of an operation; and its cases, by computation.
+use mathlib.Core.Bool.{Bool, true, false, cond}
+use mathlib.Core.Path.{_≡_, refl, ap, _∙_}
+use Prim.Native.Nat.{ℕ, _-_, min}
+use native.Mathlib.Nat.{zero-add}
+use native.Mathlib.Omega.{arith}
+use lib.Dec.{ltb}
+use Rattle.registers.specs.Registers.{registerWritten, oipSet, oipCleared, resetStatus}
+use Rattle.transfer.specs.Transfer.{instructionOf, selects, shiftedIn, cached}
+use Rattle.array.specs.Jobs.{written}
+use Rattle.array.specs.declared.Job.the-variants.{Restart}
+use Rattle.array.proofs.Stores.{restart-none}
+use Rattle.requests.specs.Requests.{programFate, eraseFate}
+use Rattle.device.specs.Work.{begins, unitOf, units, stepping}
+use Rattle.device.specs.Instructions.{shifts, programs, erases, resets, effect, acted, deselects}
+use Rattle.device.specs.Step.{off, powered, step, run}
+use Rattle.device.proofs.Units.{units-busy}
+use Rattle.part.specs.Protection.{protects}
+use Rattle.cases.specs.AfterReset.{inReset, afterReset, ResetTakes, ResetAgain, resetCases, AllResetCases}
+
+-- ---- for every part and every machine
+
+pub reset-takes : ResetTakes
+unfolding resets stepping
+reset-takes g m n =
+    let q : oipCleared (oipSet (resetStatus (m .state .regs .c0))) ≡ resetStatus (m .state .regs .c0) = omega arith in
+    units-busy g Restart n 0 (begins Restart (afterReset m)) (omega arith) refl ∙ rw (restart-none g (min n (8 - 0)) 0 (m .store), zero-add n, q)
+
+pub reset-again : ResetAgain
+unfolding resets stepping
+reset-again g m n = ap (resets (stepping g)) (reset-takes g m n) ∙ go (ltb n 8)
+  where
+    c : ℕ
+    c = m .state .regs .c0
+
+    go : (b : Bool) → resets (stepping g) (cond b (inReset n m) (afterReset m)) ≡ resets (stepping g) m
+    go true = let q : resetStatus (oipSet (resetStatus c)) ≡ resetStatus c = omega arith in rw q
+    go false = let q : resetStatus (resetStatus c) ≡ resetStatus c = omega arith in rw q
+
+-- ---- the cases
+
+pub all-reset-cases : AllResetCases
+unfolding resetCases protects registerWritten instructionOf selects shiftedIn cached written unitOf units stepping shifts programFate eraseFate programs erases resets effect acted deselects off powered step run
+all-reset-cases = refl
