@@ -272,10 +272,10 @@ typedef struct sleet_judged {
 
 /*
  * Run a log as sleet_run does, and say whether it was orderly: each instruction other than Get Feature, Read ID and Reset had its first
- * byte while the array was idle, no reset and no power loss took effect while it was busy, it began at power-up or idle and ended idle. It
- * is busy during the 8 units of a reset too. The end of an orderly log is proved to be the one reached if every operation is done whole as
- * it begins, so that two orderly logs with the same records but for their work have one end. Of a log that is refused it speaks of the
- * records done, so look at answer.refusal first; a state that is given back because its numbers stand for none is not orderly. It takes
+ * byte while the array was idle, no reset and no power loss took effect while it was busy, it began at power-up or idle and ended idle. The
+ * array is busy during the 8 units of a reset too. The end of an orderly log is proved to be the one reached if every operation is done
+ * whole as it begins, so that two orderly logs with the same records but for their work have one end. Of a log that is refused it speaks of
+ * the records done, so look at answer.refusal first; a state that is given back because its numbers stand for none is not orderly. It takes
  * longer than sleet_run.
  */
 sleet_judged sleet_judge(sleet_geometry part, sleet_state state, const uint8_t *log, size_t log_length, uint8_t *cells, size_t cells_length,
