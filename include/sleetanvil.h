@@ -11,8 +11,9 @@
  * per block and N blocks, their lengths are P*K*N, P and K*N (`sleet_cells_length`, `sleet_cache_length`, `sleet_counts_length`).
  *
  * A device that was never used has cells FFh, a cache register FFh and page counts 0 (`sleet_blank`), and begins at `sleet_power_up`. Time
- * is counted in units of array work: a unit is one byte of an operation, so that a page read or a program takes P units and an erase K*P.
- * Without work the array never gets ready. docs/MACHINE.md says what the machine does, instruction by instruction.
+ * is counted in units of array work: a page read and a program take a unit for each byte of the page, P in all, an erase one for each byte
+ * of the block, K*P; a reset takes 8 on every part. Without work the array never gets ready. docs/MACHINE.md says what the machine does,
+ * instruction by instruction.
  *
  * A simulator that has whole transfers calls `sleet_transfer`; one that has bytes calls the events; one that has a log calls `sleet_run`.
  * `sleetanvil_device.h` bundles part, state and memory into a handle for C, and `sleetanvil.hpp` into a class for C++.
@@ -77,7 +78,7 @@ enum {
     SLEET_CODE_LOAD_RANDOM = 0x84,
     SLEET_CODE_EXECUTE = 0x10,
     SLEET_CODE_BLOCK_ERASE = 0xD8,
-    SLEET_CODE_RESET = 0xFF
+    SLEET_CODE_RESET = 0xFF /* the array is then busy for 8 units */
 };
 
 /* Addresses of the registers, for Get and Set Feature: protection, feature, status, drive strength. */
@@ -144,7 +145,7 @@ uint8_t sleet_blank(sleet_geometry part, uint8_t *cells, size_t cells_length, ui
 
 enum { SLEET_IGNORED = 0x100 }; /* `instruction` where there is none to carry out */
 
-enum { SLEET_IDLE = 0, SLEET_READ = 1, SLEET_PROGRAM = 2, SLEET_ERASE = 3 }; /* `job` */
+enum { SLEET_IDLE = 0, SLEET_READ = 1, SLEET_PROGRAM = 2, SLEET_ERASE = 3, SLEET_RESET = 4 }; /* `job` */
 
 /*
  * A state that came back from a call is sound. One made by hand is sound, on a sound part, if
@@ -152,8 +153,8 @@ enum { SLEET_IDLE = 0, SLEET_READ = 1, SLEET_PROGRAM = 2, SLEET_ERASE = 3 }; /* 
  *  - bit 0 of c0 (OIP) is 1 exactly while `job` is not SLEET_IDLE;
  *  - `count` is at most 5, `column` at most 4096, `wp` and `selected` are 0 or 1;
  *  - `instruction` is SLEET_IGNORED or one of the twelve codes named below;
- *  - `job` is at most 3; SLEET_IDLE has no row and no units; another job has fewer `units` done than its length, and the `row` of a program
- *    or an erase is below K*N;
+ *  - `job` is at most 4; SLEET_IDLE has `row` 0 and `units` 0; another job has fewer `units` done than its length (sleet_operation_length);
+ *    the `row` of a program or an erase is below K*N, that of SLEET_RESET is 0;
  *  - while OIP is 1 and the chip is selected with a `count` of 1 or more, the instruction is 0Fh, 9Fh, FFh or SLEET_IGNORED.
  * Any other is refused with 5 and given back as it came.
  */
@@ -171,7 +172,7 @@ typedef struct sleet_state {
     uint8_t job;          /* the operation in progress */
     uint16_t instruction; /* 06h 04h 0Fh 1Fh 9Fh 13h 03h (for 0Bh too) 02h 84h 10h D8h FFh, or SLEET_IGNORED */
     uint16_t column;      /* the next column */
-    uint16_t row;         /* the row of the operation; 0 while idle */
+    uint16_t row;         /* the row of the operation; 0 while idle and during a reset */
     size_t units;         /* its units done; 0 while idle */
 } sleet_state;
 
@@ -182,8 +183,8 @@ sleet_state sleet_power_up(void);
 bool sleet_state_sound(sleet_geometry part, sleet_state state);
 
 /*
- * How many units a job has on a part: P for SLEET_READ and SLEET_PROGRAM, K*P for SLEET_ERASE; 0 for any other job and for a part that is
- * not sound.
+ * How many units a job has on a part: P for SLEET_READ and SLEET_PROGRAM, K*P for SLEET_ERASE, 8 for SLEET_RESET; 0 for any other job and
+ * for a part that is not sound.
  */
 size_t sleet_operation_length(sleet_geometry part, uint8_t job);
 
@@ -272,9 +273,10 @@ typedef struct sleet_judged {
 /*
  * Run a log as sleet_run does, and say whether it was orderly: each instruction other than Get Feature, Read ID and Reset had its first
  * byte while the array was idle, no reset and no power loss took effect while it was busy, it began at power-up or idle and ended idle. The
- * end of an orderly log is proved to be the one reached if every operation is done whole as it begins, so that two orderly logs with the
- * same records but for their work have one end. Of a log that is refused it speaks of the records done, so look at answer.refusal first; a
- * state that is given back because its numbers stand for none is not orderly. It takes longer than sleet_run.
+ * array is busy during the 8 units of a reset too. The end of an orderly log is proved to be the one reached if every operation is done
+ * whole as it begins, so that two orderly logs with the same records but for their work have one end. Of a log that is refused it speaks of
+ * the records done, so look at answer.refusal first; a state that is given back because its numbers stand for none is not orderly. It takes
+ * longer than sleet_run.
  */
 sleet_judged sleet_judge(sleet_geometry part, sleet_state state, const uint8_t *log, size_t log_length, uint8_t *cells, size_t cells_length,
                          uint8_t *cache, size_t cache_length, uint8_t *counts, size_t counts_length, uint8_t *out, size_t out_length);

@@ -54,7 +54,8 @@ impl Geometry {
         ffi::counts_length(*self)
     }
 
-    /// How many units of array work a job has; 0 for a geometry that is not sound.
+    /// How many units of array work a job has: the bytes of a page for a read and for a program,
+    /// those of a block for an erase, 8 for a reset; 0 for a geometry that is not sound.
     pub fn operation_len(&self, job: Job) -> usize {
         ffi::operation_length(*self, job.number())
     }

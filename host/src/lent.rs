@@ -117,9 +117,9 @@ pub fn run(
 ///
 /// It was if it began at power-up or with the array idle, if each instruction other than Get
 /// Feature, Read ID and Reset had its first byte while the array was idle, if no reset and no power
-/// loss took effect while it was busy, and if it ended idle. The end of an orderly log is proved to
-/// be the one reached if every operation is done whole as it begins, so that two orderly logs with
-/// the same bus records have one end.
+/// loss took effect while it was busy, and if it ended idle. The array is busy during the 8 units
+/// of a reset too. The end of an orderly log is proved to be the one reached if every operation is
+/// done whole as it begins, so that two orderly logs with the same bus records have one end.
 pub fn judge(
     geometry: &Geometry,
     state: State,

@@ -53,7 +53,7 @@ pub enum Job {
     Program,
     /// A block becomes FFh.
     Erase,
-    /// A reset takes its 8 units, and touches no memory. It has no row.
+    /// A reset takes its 8 units, the same on every part, and touches no memory. It has no row.
     Reset,
 }
 
@@ -102,7 +102,7 @@ impl State {
         ffi::units_left(*geometry, *self)
     }
 
-    /// OIP: an operation is in progress.
+    /// OIP: an operation is in progress, a reset too.
     pub fn is_busy(&self) -> bool {
         self.c0 & 0x01 != 0
     }

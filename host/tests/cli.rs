@@ -312,12 +312,15 @@ fn judged(args: &[&str], log: &[u8], status: i32, line: &str) {
     );
 }
 
+/// What is said of a log without work.
+const ENDS_AT_POWER_UP: &str = "not orderly: it ends while busy: read of row 0, 0 of 20 units done";
+
 #[test]
 fn a_judgement() {
     let output = with_input(&["replay", "--judge", "-"], &REPLAY);
     assert_eq!(succeeds(&output), "orderly\nend 0 8\n");
     judged(&[], &[0x04, 0x14, 0x00], 0, "orderly");
-    judged(&[], &[], 3, "not orderly: it ends while busy");
+    judged(&[], &[], 3, ENDS_AT_POWER_UP);
 
     let transfer = |bytes: &[u8]| {
         let mut log = Log::new();
@@ -351,12 +354,49 @@ fn a_judgement() {
 
     // A log that is refused: the verdict is of the records done, the status that of a refusal.
     judged(&[], &[0x04, 0x14, 0x00, 0x07], 1, "orderly");
-    judged(
-        &[],
-        &[0x04, 0x13, 0x00, 0x07],
-        1,
-        "not orderly: it ends while busy",
-    );
+    let line = "not orderly: it ends while busy: read of row 0, 19 of 20 units done";
+    judged(&[], &[0x04, 0x13, 0x00, 0x07], 1, line);
+}
+
+/// A reset is an operation of its own: what comes in its 8 units comes while busy.
+#[test]
+fn a_judgement_of_a_reset() {
+    let begun = |more: &[Record]| {
+        let mut log = Log::new();
+        log.push(Record::Work(20));
+        log.transfer(&[0xFF]);
+        log.extend(more.iter().copied());
+        log
+    };
+    let sent = |code| [Record::Select, Record::Shift(code), Record::Deselect];
+    let (seven, last) = (Record::Work(7), Record::Work(1));
+    for (more, line) in [
+        (&[][..], "it ends while busy: reset, 0 of 8 units done"),
+        (&[seven], "it ends while busy: reset, 7 of 8 units done"),
+        (&sent(0x06), "record 5, 06h begun while busy"),
+        (
+            &[&[seven], &sent(0x1F)[..], &[last]].concat(),
+            "record 6, 1Fh begun while busy",
+        ),
+        (
+            &[&[seven], &sent(0xFF)[..], &[last, seven]].concat(),
+            "record 7, a reset took effect while busy",
+        ),
+        (&[seven, Record::Power], "record 5, power lost while busy"),
+    ] {
+        let line = format!("not orderly: {line}");
+        judged(&[], begun(more).as_bytes(), 3, &line);
+    }
+    // Begun in the reset, in effect behind it.
+    let [select, shift, deselect] = sent(0xFF);
+    for more in [
+        &[seven, last][..],
+        &[&[seven], &sent(0x9F)[..], &[last]].concat(),
+        &[&[seven, last], &sent(0x06)[..]].concat(),
+        &[select, shift, seven, last, deselect, seven, last],
+    ] {
+        judged(&[], begun(more).as_bytes(), 0, "orderly");
+    }
 }
 
 /// Of a device that was saved busy a log is not orderly, whatever it does.
@@ -364,7 +404,7 @@ fn a_judgement() {
 fn a_judgement_of_the_start() {
     let folder = Folder::new("a_judgement_of_the_start");
     let (image, saved) = (folder.file("image"), folder.file("saved"));
-    let line = "not orderly: it ends while busy";
+    let line = "not orderly: it ends while busy: read of row 0, 1 of 20 units done";
     judged(&["--save", &image], &[0x04, 0x01, 0x00], 3, line);
     let idle = [0x04, 0x14, 0x00];
     let line = "not orderly: it begins while busy, and not at power-up";
@@ -373,13 +413,7 @@ fn a_judgement_of_the_start() {
     // What is not orderly was saved all the same.
     judged(&["--image", &saved], &[], 0, "orderly");
     // Power-up with WP# low is power-up.
-    let low = [0x05, 0x00];
-    judged(
-        &["--save", &image],
-        &low,
-        3,
-        "not orderly: it ends while busy",
-    );
+    judged(&["--save", &image], &[0x05, 0x00], 3, ENDS_AT_POWER_UP);
     judged(&["--image", &image], &idle, 0, "orderly");
 }
 
@@ -409,6 +443,7 @@ fn a_trace_of_much() {
     log.transfer(&[0x06]);
     log.push(Record::Work(30));
     log.transfer(&[0xFF]);
+    log.push(Record::Work(8));
     log.push(Record::Work(1));
     log.transfer(&[0x0B, 0x00, 0x13, 0x00, 0x00, 0x00, 0x00]);
     log.transfer(&[0x03, 0xFF, 0xFF, 0x00, 0x00]);
@@ -449,7 +484,9 @@ fn a_trace_of_much() {
          status 06h -> 01h (busy)",
         "06h Write Enable; ignored: busy at its first byte",
         "work of 30 units: erase of block 1, 30 of 80 units done",
-        "FFh Reset: erase of block 1 cut after 30 of 80 units; status 01h -> 00h (idle)",
+        "FFh Reset: erase of block 1 cut after 30 of 80 units, reset begins, 8 units; \
+         status stays 01h (busy)",
+        "work of 8 units: reset ends; status 01h -> 00h (idle)",
         "work of 1 unit: the array is idle, nothing happens",
         "0Bh Fast Read From Cache column 19 -> FFh FFh .. 3 bytes in all (2 past the page)",
         "03h Read From Cache column 4095 (outside the page) -> FFh (1 past the page)",
@@ -467,12 +504,127 @@ fn a_trace_of_much() {
         "1Fh Set Feature A0h = 00h: nothing happens, BRWD is 1 and WP# is low",
         "9Fh Read ID -> 5Ah 01h",
         "select without a byte; cut by power loss",
-        "power lost and back: read of row 0 begins; reset to A0h 38h (all 8 blocks protected), \
-         B0h 10h, D0h 40h and a cache register of FFh; WP# stays low; status 08h -> 01h (busy)",
+        "power lost and back: read of row 0 begins; set back to A0h 38h (all 8 blocks \
+         protected), B0h 10h, D0h 40h and a cache register of FFh; WP# stays low; \
+         status 08h -> 01h (busy)",
     ] {
         let found = trace.lines().any(|traced| traced.get(13..) == Some(line));
         assert!(found, "no line `{line}` in\n{trace}");
     }
+}
+
+/// A reset of an operation, of a reset, from idle, with WEL, with a fail bit, with a byte too many;
+/// what is ignored and what is answered meanwhile; and one that a power loss cuts.
+#[test]
+fn a_trace_of_resets() {
+    let sent = |bytes: &[u8]| {
+        let mut log = Log::new();
+        log.transfer(bytes);
+        log
+    };
+    let work = |units| Log::from_iter([Record::Work(units)]);
+    let steps = [
+        (
+            work(13),
+            "work of 13 units: read of row 0, 13 of 20 units done",
+        ),
+        (
+            sent(&[0xFF]),
+            "FFh Reset: read of row 0 cut after 13 of 20 units, reset begins, 8 units; \
+             status stays 01h (busy)",
+        ),
+        (
+            sent(&[0x0F, 0xC0, 0x00]),
+            "0Fh Get Feature C0h -> 01h (busy)",
+        ),
+        (sent(&[0x9F, 0x00, 0x00, 0x00]), "9Fh Read ID -> 5Ah 01h"),
+        (work(5), "work of 5 units: reset, 5 of 8 units done"),
+        (
+            sent(&[0xFF]),
+            "FFh Reset: reset begins anew after 5 of 8 units; status stays 01h (busy)",
+        ),
+        (work(7), "work of 7 units: reset, 7 of 8 units done"),
+        (
+            sent(&[0x06]),
+            "06h Write Enable; ignored: busy at its first byte",
+        ),
+        (
+            sent(&[0xFF, 0x00]),
+            "FFh Reset and 00h: nothing happens, shifted 2 bytes, needs 1",
+        ),
+        (
+            work(2),
+            "work of 2 units: reset ends with 1 of them; status 01h -> 00h (idle)",
+        ),
+        (sent(&[0x06]), "06h Write Enable; status 00h -> 02h (WEL)"),
+        (
+            sent(&[0xFF]),
+            "FFh Reset: reset begins, 8 units; status 02h -> 03h (busy, WEL)",
+        ),
+        (
+            work(8),
+            "work of 8 units: reset ends; status 03h -> 02h (WEL)",
+        ),
+        (
+            sent(&[0x10, 0x00, 0x00, 0x00]),
+            "10h Program Execute row 0: P_FAIL, block 0 is protected; \
+             status 02h -> 08h (P_FAIL)",
+        ),
+        (
+            sent(&[0x13, 0x00, 0x00, 0x01]),
+            "13h Page Read row 1: read of row 1 begins, 20 units; \
+             status 08h -> 09h (busy, P_FAIL)",
+        ),
+        (
+            sent(&[0xFF]),
+            "FFh Reset: read of row 1 cut after 0 of 20 units, reset begins, 8 units; \
+             status 09h -> 01h (busy)",
+        ),
+        (
+            Log::from_iter([Record::Power]),
+            "power lost and back: reset cut after 0 of 8 units, read of row 0 begins; \
+             set back to A0h 38h (all 8 blocks protected), B0h 10h, D0h 40h and a cache register \
+             of FFh; WP# stays high",
+        ),
+    ];
+    let log: Vec<_> = steps
+        .iter()
+        .flat_map(|(log, _)| log.as_bytes())
+        .copied()
+        .collect();
+    let trace = succeeds(&with_input(&["replay", "--trace", "-"], &log));
+    assert_eq!(texts(&trace), steps.map(|(_, line)| line));
+}
+
+/// The paper for drivers shows what was printed, as it was printed.
+#[track_caller]
+fn is_shown_to_drivers(printed: &str) {
+    let shown: String = printed
+        .lines()
+        .map(|line| format!("    {line}\n"))
+        .collect();
+    let paper = concat!(env!("CARGO_MANIFEST_DIR"), "/../docs/FOR-DRIVERS.md");
+    let paper = fs::read_to_string(paper).expect("the paper");
+    assert!(paper.contains(&format!("\n\n{shown}\n")), "{shown}");
+}
+
+/// The trace of a driver that does not wait for the end of its reset.
+#[test]
+fn a_trace_of_the_papers() {
+    let mut log = Log::new();
+    log.push(Record::Work(2176));
+    log.transfer(&[0xFF]);
+    log.transfer(&[0x9F, 0x00, 0x00, 0x00]);
+    log.transfer(&[0x1F, 0xA0, 0x00]);
+    log.push(Record::Work(8));
+    log.transfer(&[0x06]);
+    log.transfer(&[0x02, 0x00, 0x00, 0xA5]);
+    log.transfer(&[0x10, 0x00, 0x00, 0x40]);
+    log.transfer(&[0x0F, 0xC0, 0x00]);
+    let args = ["replay", "--part", "fm25s005bi3", "--trace", "--judge", "-"];
+    let output = with_input(&args, log.as_bytes());
+    assert_eq!(output.status.code(), Some(3), "{}", text(&output.stderr));
+    is_shown_to_drivers(&text(&output.stdout));
 }
 
 /// The protected blocks of the real part, at each BP number and on both sides.
@@ -598,7 +750,7 @@ fn a_bad_image() {
     let good = fs::read(&image).expect("the image");
 
     type Change = fn(&mut Vec<u8>);
-    let changes: [(Change, &str); 14] = [
+    let changes: [(Change, &str); 17] = [
         (|bytes| bytes.clear(), "not an image file"),
         (|bytes| bytes[0] = b'X', "not an image file"),
         (|bytes| bytes.truncate(20), "ends inside its head"),
@@ -610,6 +762,15 @@ fn a_bad_image() {
         (|bytes| bytes.truncate(OLD_IMAGE), "has 704 bytes"),
         (|bytes| bytes[OLD_IMAGE + 2] = 0, "the state is not sound"),
         (|bytes| bytes[OLD_IMAGE + 4] = 2, "the state is not sound"),
+        (|bytes| bytes[OLD_IMAGE + 10] = 5, "the state is not sound"),
+        (
+            |bytes| (bytes[OLD_IMAGE + 10], bytes[OLD_IMAGE + 16]) = (4, 1),
+            "the state is not sound",
+        ),
+        (
+            |bytes| (bytes[OLD_IMAGE + 10], bytes[OLD_IMAGE + 20]) = (4, 8),
+            "the state is not sound",
+        ),
         (|bytes| bytes[OLD_IMAGE + 11] = 1, "has to be 0"),
         (|bytes| bytes[OLD_IMAGE + 18] = 1, "has to be 0"),
         (|bytes| bytes[OLD_IMAGE + 23] = 1, "the state is not sound"),
@@ -760,12 +921,46 @@ fn a_device_is_saved_and_goes_on() {
     log.transfer(&[0x84, 0x00, 0x11, 0x01, 0x02, 0x03, 0x04, 0x05]);
     log.transfer(&[0x10, 0x00, 0x00, 0x05, 0x00, 0x00]);
     log.transfer(&[0x6B, 0x00]);
+    log.transfer(&[0xFF]);
+    log.push(Record::Work(5));
+    log.transfer(&[0xFF]);
+    log.push(Record::Work(7));
+    log.transfer(&[0x0F, 0xC0, 0x00]);
+    log.push(Record::Work(1));
+    log.transfer(&[0x0F, 0xC0, 0x00]);
     log.push(Record::Power);
     log.push(Record::Select);
     cut_everywhere(&folder, log.as_bytes());
     let log = Generator::new(0xC07, 0).sound_log(&Geometry::bench(), 8);
     assert!(log.len() > 30, "{log:?}");
     cut_everywhere(&folder, &log);
+}
+
+/// Saved after 5 units of a reset, a device goes on with the sixth.
+#[test]
+fn a_device_is_saved_in_a_reset() {
+    let folder = Folder::new("a_device_is_saved_in_a_reset");
+    let image = folder.file("image");
+    let mut log = Log::new();
+    log.transfer(&[0xFF]);
+    log.push(Record::Work(5));
+    let args = ["replay", "--save", &image, "-"];
+    succeeds(&with_input(&args, log.as_bytes()));
+    let saved = fs::read(&image).expect("the image");
+    let [job, units] = [10, 20].map(|place| saved[OLD_IMAGE + place]);
+    assert_eq!((job, units), (4, 5));
+    let mut log = Log::new();
+    log.push(Record::Work(1));
+    log.transfer(&[0xFF]);
+    let args = ["replay", "--trace", "--image", &image, "-"];
+    let trace = succeeds(&with_input(&args, log.as_bytes()));
+    assert_eq!(
+        texts(&trace),
+        [
+            "work of 1 unit: reset, 6 of 8 units done",
+            "FFh Reset: reset begins anew after 6 of 8 units; status stays 01h (busy)",
+        ]
+    );
 }
 
 fn cut_everywhere(folder: &Folder, log: &[u8]) {

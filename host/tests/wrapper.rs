@@ -6,7 +6,9 @@ use std::error::Error;
 
 use sleetanvil::lent::{self, Memory};
 use sleetanvil::page::{self, Sizes};
-use sleetanvil::{Device, Geometry, Grant, Job, Keeper, Log, Record, Records, Refusal, State};
+use sleetanvil::{
+    Device, Geometry, Grant, Job, Keeper, Log, Operation, Record, Records, Refusal, State,
+};
 
 /// A bench part that has done its power-up read and is unlocked.
 fn ready() -> Device {
@@ -193,6 +195,129 @@ fn a_transfer_while_busy_is_ignored() {
     device.work(20);
     device.deselect();
     assert!(!device.state().is_write_enabled());
+}
+
+/// A bench part whose cells are all 3Ch, with 7 units of its power-up read done.
+fn in_power_up_read() -> Device {
+    let geometry = Geometry::bench();
+    let mut device = Device::power_up_with(geometry, vec![0x3C; 640], vec![2; 32]).expect("sound");
+    device.work(7);
+    device
+}
+
+fn poll(device: &mut Device) -> u8 {
+    device.transfer(&[0x0F, 0xC0, 0x00])[2]
+}
+
+/// The operation of a reset with so many units done.
+fn reset_after(units: usize) -> Option<Operation> {
+    Some(Operation {
+        job: Job::Reset,
+        row: 0,
+        units,
+    })
+}
+
+#[test]
+fn a_reset_is_polled_until_it_is_done() {
+    let mut device = in_power_up_read();
+    device.transfer(&[0xFF]);
+    for done in 0..8 {
+        assert_eq!(device.state().operation(), reset_after(done));
+        assert_eq!((poll(&mut device), device.units_left()), (0x01, 8 - done));
+        // Read ID is answered; an unlock is not heard.
+        assert_eq!(
+            device.transfer(&[0x9F, 0x00, 0x00, 0x00])[2..],
+            [0x5A, 0x01]
+        );
+        device.transfer(&[0x1F, 0xA0, 0x00]);
+        assert_eq!(device.state().a0, 0x38);
+        device.work(1);
+    }
+    assert_eq!((poll(&mut device), device.units_left()), (0x00, 0));
+    assert_eq!(device.state().operation(), None);
+    // It cut the read after 7 bytes, and touched nothing itself.
+    assert_eq!(device.cache(), [[0x3C; 7].as_slice(), &[0xFF; 13]].concat());
+    assert_eq!(
+        (device.cells(), device.counts()),
+        (&[0x3C; 640][..], &[2; 32][..])
+    );
+    device.transfer(&[0x1F, 0xA0, 0x00]);
+    assert_eq!(device.state().a0, 0x00);
+}
+
+#[test]
+fn a_reset_begins_again_and_is_cut() {
+    let mut device = ready();
+    device.transfer(&[0x06]);
+    device.transfer(&[0xFF]);
+    assert_eq!(poll(&mut device), 0x03);
+    device.work(5);
+    device.transfer(&[0xFF]);
+    assert_eq!(
+        (device.state().operation(), device.units_left()),
+        (reset_after(0), 8)
+    );
+    device.work(7);
+    assert_eq!(poll(&mut device), 0x03);
+    device.work(u64::MAX);
+    assert_eq!(poll(&mut device), 0x02);
+
+    device.transfer(&[0xFF]);
+    device.work(7);
+    device.power();
+    assert_eq!(device.state(), &State::power_up());
+}
+
+/// On every part, one with a page of a single byte too; and a device in a reset is kept and comes
+/// back.
+#[test]
+fn a_reset_is_a_job_of_a_sound_state() {
+    for job in [Job::Read, Job::Program, Job::Erase, Job::Reset] {
+        let job_of = |state: State| state.operation().map(|operation| operation.job);
+        let state = State {
+            job: job.number(),
+            ..State::power_up()
+        };
+        assert_eq!(job_of(state), Some(job));
+        assert!(state.is_sound(&Geometry::bench()));
+    }
+    let mut one_byte = Geometry::bench();
+    (one_byte.data, one_byte.spare, one_byte.pages) = (1, 0, 1);
+    let mut unsound = Geometry::bench();
+    unsound.blocks = 0;
+    assert_eq!(unsound.operation_len(Job::Reset), 0);
+    for geometry in [Geometry::bench(), Geometry::fm25s005bi3(), one_byte] {
+        assert_eq!(geometry.operation_len(Job::Reset), 8);
+        let state = |job, row, units| State {
+            job,
+            row,
+            units,
+            ..State::power_up()
+        };
+        for units in 0..8 {
+            assert!(state(4, 0, units).is_sound(&geometry));
+            assert_eq!(state(4, 0, units).units_left(&geometry), 8 - units);
+            assert_eq!(state(4, 0, units).operation(), reset_after(units));
+        }
+        for unsound in [state(4, 0, 8), state(4, 1, 7), state(5, 0, 0)] {
+            assert!(!unsound.is_sound(&geometry), "{unsound:?}");
+            assert_eq!(unsound.units_left(&geometry), 0);
+        }
+        let idle = State {
+            c0: 0x00,
+            ..state(4, 0, 7)
+        };
+        assert!(!idle.is_sound(&geometry), "without OIP");
+    }
+
+    let mut device = ready();
+    device.transfer(&[0xFF]);
+    device.work(7);
+    let copy = device.clone();
+    let (geometry, state, cells, cache, counts) = device.into_parts();
+    let again = Device::from_parts(geometry, state, cells, cache, counts);
+    assert_eq!(again, Ok(copy));
 }
 
 #[test]

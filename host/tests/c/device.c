@@ -300,6 +300,38 @@ static void check_read_id(void)
     CHECK(memcmp(out, expected, sizeof expected) == 0 && out[sizeof expected] == 0xEE);
 }
 
+/* The probe of a driver: reset, poll until it is done, identity, features, unlock. Between the polls the array gets on by 3 units. */
+static void check_probe(void)
+{
+    static const uint8_t reset[] = {SLEET_CODE_RESET};
+    static const uint8_t read_id[] = {SLEET_CODE_READ_ID, 0, 0, 0};
+    static const uint8_t get_features[] = {SLEET_CODE_GET_FEATURE, SLEET_B0, 0};
+    sleet_device device = made();
+    int polls = 0;
+
+    transfer(&device, reset, sizeof reset);
+    CHECK(device.state.job == SLEET_RESET && sleet_device_busy(&device) && sleet_device_units_left(&device) == 8);
+    while (polls < 10 && status(&device) == SLEET_C0_OIP) {
+        CHECK(sleet_device_work(&device, 3) == SLEET_DONE);
+        polls++;
+    }
+    CHECK(polls == 3 && status(&device) == 0 && sleet_device_ready(&device) && sleet_device_units_left(&device) == 0);
+    transfer(&device, read_id, sizeof read_id);
+    CHECK(out[2] == 0x5A && out[3] == 0x01);
+    transfer(&device, get_features, sizeof get_features);
+    CHECK(out[2] == SLEET_B0_ECC_E);
+    unlock(&device);
+    CHECK(device.state.a0 == 0);
+
+    /* A driver that does not poll: its unlock is not heard, and its first program fails. */
+    device = made();
+    transfer(&device, reset, sizeof reset);
+    unlock(&device);
+    CHECK(device.state.a0 == SLEET_A0_BP && sleet_device_work(&device, 8) == SLEET_DONE && sleet_device_ready(&device));
+    request(&device, SLEET_CODE_EXECUTE, 0);
+    CHECK(status(&device) == SLEET_C0_P_FAIL && counts[0] == 0);
+}
+
 /* A page programmed, read back, and erased with its block. */
 static void check_page(void)
 {
@@ -475,6 +507,7 @@ int main(void)
     check_stopped();
     check_judgement();
     check_read_id();
+    check_probe();
     check_page();
     check_too_little_room();
     check_continued();

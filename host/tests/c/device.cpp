@@ -122,9 +122,14 @@ static void check_refused()
     flash = device(sleet_bench(), bytes(640), bytes(33));
     CHECK(flash.refusal() == SLEET_BAD_COUNTS);
     check_unusable(flash, SLEET_BAD_COUNTS);
-    state.job = 4;
+    state.job = 5;
     flash = device(sleet_bench(), state, bytes(640), bytes(20), bytes(32));
     CHECK(flash.refusal() == SLEET_BAD_STATE && same_state(flash.state(), state) && flash.peek() == 0xFF);
+    check_unusable(flash, SLEET_BAD_STATE);
+    state.job = SLEET_RESET;
+    state.row = 1;
+    flash = device(sleet_bench(), state, bytes(640), bytes(20), bytes(32));
+    CHECK(flash.refusal() == SLEET_BAD_STATE && same_state(flash.state(), state));
     check_unusable(flash, SLEET_BAD_STATE);
 
     /* Lengths that became wrong, and right again. */
@@ -198,6 +203,22 @@ static void check_logs()
     flash = device(sleet_bench());
     CHECK(flash.judge(behind, sizeof behind, out, sizeof out) == SLEET_DONE && flash.orderly() && flash.state().c0 == SLEET_C0_WEL);
     CHECK(flash.deselect() == SLEET_DONE && !flash.orderly());
+}
+
+/* The probe of a driver: reset, poll, work until the status is 0. A device in its reset is kept and comes back. */
+static void check_probe()
+{
+    device flash(sleet_bench());
+    const bytes get_status = {SLEET_CODE_GET_FEATURE, SLEET_C0, 0};
+
+    transfer(flash, {SLEET_CODE_RESET});
+    CHECK(flash.busy() && flash.state().job == SLEET_RESET && flash.state().row == 0 && flash.units_left() == 8);
+    CHECK(transfer(flash, get_status)[2] == SLEET_C0_OIP && flash.work(7) == SLEET_DONE);
+    CHECK(transfer(flash, get_status)[2] == SLEET_C0_OIP && flash.units_left() == 1);
+    device kept(flash.part(), flash.state(), flash.cells(), flash.cache(), flash.counts());
+    CHECK(kept && same(kept, flash) && kept.work(1) == SLEET_DONE && kept.ready() && transfer(kept, get_status)[2] == 0);
+    transfer(flash, {SLEET_CODE_RESET});
+    CHECK(flash.units_left() == 8 && flash.work(flash.units_left()) == SLEET_DONE && same(flash, kept));
 }
 
 /* The identity; a page programmed, read back, and erased with its block. */
@@ -366,6 +387,7 @@ int main()
     check_log();
     check_events();
     check_logs();
+    check_probe();
     check_transfers();
     check_pieces();
     check_questions();

@@ -1,7 +1,7 @@
 /*
- * The C interface from C, and from C++ (the file is compiled as both): document 01's log on the bench part, refusals, transfers, single
- * events, questions, blank memory, records of a log, and texts. Each check that fails is printed; the program's status is 0 if there is
- * none.
+ * The C interface from C, and from C++ (the file is compiled as both): document 01's log on the bench part, refusals, transfers, resets,
+ * single events, questions, blank memory, records of a log, and texts. Each check that fails is printed; the program's status is 0 if there
+ * is none.
  */
 #include <string.h>
 
@@ -195,7 +195,7 @@ static sleet_answer transfer(sleet_state state, const uint8_t *di, size_t length
     return sleet_transfer(sleet_bench(), state, di, length, MEMORY, out, room);
 }
 
-/* The registers by their names, at power-up; and the names of the instructions, the bits and the kinds by their numbers. */
+/* The registers by their names, at power-up; and the names of the instructions, the bits, the kinds and the jobs by their numbers. */
 static void check_names(void)
 {
     static const uint8_t addresses[4] = {SLEET_A0, SLEET_B0, SLEET_C0, SLEET_D0};
@@ -217,6 +217,7 @@ static void check_names(void)
     CHECK(SLEET_C0_OIP == 0x01 && SLEET_C0_WEL == 0x02 && SLEET_C0_E_FAIL == 0x04 && SLEET_C0_P_FAIL == 0x08 && SLEET_C0_ECCS == 0x70);
     CHECK(SLEET_D0_DRIVE == 0x60 && SLEET_KIND_SELECT == 1 && SLEET_KIND_SHIFT == 2 && SLEET_KIND_DESELECT == 3);
     CHECK(SLEET_KIND_WORK == 4 && SLEET_KIND_LEVEL == 5 && SLEET_KIND_POWER == 6);
+    CHECK(SLEET_IDLE == 0 && SLEET_READ == 1 && SLEET_PROGRAM == 2 && SLEET_ERASE == 3 && SLEET_RESET == 4);
 }
 
 /* A transfer is the run of its records; without room enough it is completed by shifts and a deselect. */
@@ -276,6 +277,70 @@ static void check_transfers(void)
     CHECK(refused(answer, SLEET_BAD_PART, 0, 0, 0) && same_state(answer.state, start) && out[0] == 0xEE);
 }
 
+/* Returns the power-up state with another job, row and units done. */
+static sleet_state at_work(uint8_t job, uint16_t row, size_t units)
+{
+    sleet_state state = sleet_power_up();
+
+    state.job = job;
+    state.row = row;
+    state.units = units;
+    return state;
+}
+
+/* A state is refused as it is, by the number 5. */
+static void check_unsound(sleet_state state)
+{
+    static const uint8_t none[1] = {0};
+    sleet_answer answer = run(state, none, 0, 0);
+
+    CHECK(!sleet_state_sound(sleet_bench(), state) && sleet_units_left(sleet_bench(), state) == 0);
+    CHECK(refused(answer, SLEET_BAD_STATE, 0, 0, 0) && same_state(answer.state, state));
+}
+
+/* A reset is an operation of 8 units, without a row, that touches no memory; a second one begins them again. */
+static void check_resets(void)
+{
+    static const uint8_t reset[1] = {SLEET_CODE_RESET};
+    static const uint8_t write_enable[1] = {SLEET_CODE_WRITE_ENABLE};
+    sleet_geometry part = sleet_bench();
+    sleet_state begun;
+    sleet_answer answer;
+    size_t units;
+
+    erase_all();
+    memset(cells, 0x3C, sizeof cells);
+    answer = sleet_work(part, sleet_power_up(), 7, MEMORY);
+    answer = transfer(answer.state, reset, sizeof reset, sizeof out);
+    begun = answer.state;
+    CHECK(begun.c0 == SLEET_C0_OIP && begun.job == SLEET_RESET && begun.row == 0 && begun.units == 0 && begun.a0 == SLEET_A0_BP);
+    for (units = 0; units < 8; units++) {
+        CHECK(answer.state.c0 == SLEET_C0_OIP && answer.state.units == units && sleet_units_left(part, answer.state) == 8 - units);
+        CHECK(same_state(transfer(answer.state, reset, sizeof reset, sizeof out).state, begun));
+        CHECK(transfer(answer.state, write_enable, sizeof write_enable, sizeof out).state.c0 == SLEET_C0_OIP);
+        answer = sleet_work(part, answer.state, 1, MEMORY);
+    }
+    CHECK(answer.state.c0 == 0 && answer.state.job == SLEET_IDLE && answer.state.units == 0 && sleet_units_left(part, answer.state) == 0);
+    CHECK(cells[639] == 0x3C && cache[6] == 0x3C && cache[7] == 0xFF && counts[0] == 0);
+
+    /* Work far beyond its end, and power lost in it. */
+    CHECK(same_state(sleet_work(part, begun, UINT64_MAX, MEMORY).state, answer.state));
+    CHECK(same_state(sleet_power(part, begun, MEMORY).state, sleet_power_up()));
+
+    /* From idle; WEL stays. */
+    answer = transfer(answer.state, write_enable, sizeof write_enable, sizeof out);
+    CHECK(answer.state.c0 == SLEET_C0_WEL);
+    answer = transfer(answer.state, reset, sizeof reset, sizeof out);
+    CHECK(answer.state.c0 == (SLEET_C0_OIP | SLEET_C0_WEL) && answer.state.job == SLEET_RESET && sleet_units_left(part, answer.state) == 8);
+
+    /* What is a reset and what is none. */
+    CHECK(sleet_state_sound(part, at_work(SLEET_RESET, 0, 0)) && sleet_state_sound(part, at_work(SLEET_RESET, 0, 7)));
+    CHECK(sleet_units_left(part, at_work(SLEET_RESET, 0, 7)) == 1);
+    check_unsound(at_work(SLEET_RESET, 0, 8));
+    check_unsound(at_work(SLEET_RESET, 1, 0));
+    check_unsound(at_work(5, 0, 0));
+}
+
 /* The next byte on DO, the units of an operation and the units left, and work of more than a record can say. */
 static void check_questions(void)
 {
@@ -293,8 +358,9 @@ static void check_questions(void)
     wrong.units = 20;
     CHECK(sleet_operation_length(part, SLEET_READ) == 20 && sleet_operation_length(part, SLEET_PROGRAM) == 20);
     CHECK(sleet_operation_length(part, SLEET_ERASE) == 80 && sleet_operation_length(real, SLEET_ERASE) == 139264);
-    CHECK(sleet_operation_length(part, SLEET_IDLE) == 0 && sleet_operation_length(part, 4) == 0);
-    CHECK(sleet_operation_length(unsound, SLEET_READ) == 0);
+    CHECK(sleet_operation_length(part, SLEET_RESET) == 8 && sleet_operation_length(real, SLEET_RESET) == 8);
+    CHECK(sleet_operation_length(part, SLEET_IDLE) == 0 && sleet_operation_length(part, 5) == 0);
+    CHECK(sleet_operation_length(unsound, SLEET_READ) == 0 && sleet_operation_length(unsound, SLEET_RESET) == 0);
 
     CHECK(sleet_units_left(part, sleet_power_up()) == 20 && sleet_units_left(real, sleet_power_up()) == 2176);
     CHECK(sleet_units_left(part, wrong) == 0 && sleet_units_left(unsound, sleet_power_up()) == 0);
@@ -446,6 +512,7 @@ int main(void)
     check_events();
     check_names();
     check_transfers();
+    check_resets();
     check_questions();
     check_blank();
     check_records();

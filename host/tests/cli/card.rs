@@ -7,7 +7,9 @@ use std::os::unix::fs::{symlink, PermissionsExt};
 use sleetanvil::card::{Card, Command, Stage, CODE, COUNTER};
 use sleetanvil::Refusal;
 
-use super::{fails, mode, sleetanvil, start, succeeds, text, with_input, Folder};
+use super::{
+    fails, is_shown_to_drivers, mode, sleetanvil, start, succeeds, text, with_input, Folder,
+};
 
 /// The three commands that open a new card.
 const OPEN: [Command; 3] = [
@@ -298,13 +300,7 @@ fn a_card_trace() {
 fn a_card_trace_of_the_papers() {
     let commands = [OPEN[0], Command::Read { address: COUNTER }, OPEN[1]];
     let printed = succeeds(&with_input(&["card", "--trace", "-"], &log(&commands)));
-    let shown: String = printed
-        .lines()
-        .map(|line| format!("    {line}\n"))
-        .collect();
-    let paper = concat!(env!("CARGO_MANIFEST_DIR"), "/../docs/FOR-DRIVERS.md");
-    let paper = fs::read_to_string(paper).expect("the paper");
-    assert!(paper.contains(&format!("\n\n{shown}\n")), "{shown}");
+    is_shown_to_drivers(&printed);
 }
 
 /// The answer in the trace is the library's, for every first byte, before and after the code.

@@ -37,7 +37,7 @@ options of replay; a value may also be given as --part=NAME:
   --trace         print a line for each transfer and each other record, in the
                   order in which they begin. An indented line is of a record
                   inside the transfer above it. Where A0h is written or read,
-                  or reset by a power loss, the protected blocks are named
+                  or set back by a power loss, the protected blocks are named
   --bytes N       data bytes that a line of the trace shows; 16 if not given
   --judge         print `orderly`, or `not orderly` and the first reason, before
                   the last line. A log is orderly if it begins at power-up or
@@ -45,7 +45,8 @@ options of replay; a value may also be given as --part=NAME:
                   Feature, Read ID and Reset, no reset and no power loss takes
                   effect, and if it ends with the array idle: its end is then
                   the one reached if each operation is done whole as it begins.
-                  Of a log that is refused it speaks of the records done
+                  A reset is an operation too, of 8 units. Of a log that is
+                  refused it speaks of the records done
 
 options of page; boot code sizes a part from this page:
   --part NAME     the part whose page is made: bench or fm25s005bi3; bench if

@@ -3,9 +3,9 @@
 
 use std::fmt;
 
-use sleetanvil::{Device, Record, Records, State};
+use sleetanvil::{Device, Geometry, Operation, Record, Records, State};
 
-use crate::instruction;
+use crate::{instruction, operation};
 
 /// What is said of a log.
 pub struct Judgement {
@@ -24,8 +24,8 @@ enum Reason {
     Reset { record: usize },
     /// Power lost while busy.
     Power { record: usize },
-    /// It ends busy.
-    End,
+    /// It ends with an operation in progress, on a part.
+    End(Operation, Geometry),
 }
 
 impl Judgement {
@@ -64,7 +64,9 @@ impl fmt::Display for Reason {
                 write!(f, "record {record}, a reset took effect while busy")
             }
             Reason::Power { record } => write!(f, "record {record}, power lost while busy"),
-            Reason::End => f.write_str("it ends while busy"),
+            Reason::End(last, part) => {
+                write!(f, "it ends while busy: {}", operation::so_far(last, part))
+            }
         }
     }
 }
@@ -80,7 +82,8 @@ fn reason(mut device: Device, log: &[u8]) -> Option<Reason> {
         }
         step(&mut device, record);
     }
-    device.state().is_busy().then_some(Reason::End)
+    let last = device.state().operation()?;
+    Some(Reason::End(last, *device.geometry()))
 }
 
 /// At power-up, with WP# at either level, or idle.
@@ -158,7 +161,7 @@ mod tests {
                 Some(Reason::Instruction { .. }) => 2,
                 Some(Reason::Reset { .. }) => 3,
                 Some(Reason::Power { .. }) => 4,
-                Some(Reason::End) => 5,
+                Some(Reason::End(..)) => 5,
             }] += 1;
         }
         assert!(met.iter().all(|&times| times >= 20), "{met:?}");

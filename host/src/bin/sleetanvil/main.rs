@@ -7,6 +7,7 @@ mod card_trace;
 mod image;
 mod instruction;
 mod judge;
+mod operation;
 mod output;
 mod page;
 mod pieces;

@@ -3,9 +3,10 @@
 use std::fmt::Write as _;
 use std::io::{self, Write};
 
-use sleetanvil::{Device, Geometry, Job, Operation, Record, State};
+use sleetanvil::{Device, Job, Operation, Record, State};
 
 use crate::instruction::{named, Form, Instruction};
+use crate::operation::{self, block};
 use crate::protection;
 use crate::words::counted;
 
@@ -189,12 +190,12 @@ impl<W: Write> Tracer<W> {
 
     /// What work did to an operation.
     fn progress(&self, operation: &Operation, units: usize) -> String {
-        let name = self.operation_name(operation);
-        let length = length(operation.job, self.device.geometry());
+        let geometry = self.device.geometry();
         match self.device.state().operation() {
-            Some(now) => format!("{name}, {} of {length} units done", now.units),
+            Some(now) => operation::so_far(&now, geometry),
             None => {
-                let needed = length - operation.units;
+                let name = operation::name(operation, geometry);
+                let needed = geometry.operation_len(operation.job) - operation.units;
                 let beyond = if needed < units {
                     format!(" with {needed} of them")
                 } else {
@@ -221,13 +222,13 @@ impl<W: Write> Tracer<W> {
         self.device.power();
         let mut text = String::from("power lost and back: ");
         if let Some(operation) = before.operation() {
-            text += &self.cut(&operation);
+            text += &operation::cut(&operation, self.device.geometry());
             text += ", ";
         }
         let after = self.device.state();
         let _ = write!(
             text,
-            "read of row 0 begins; reset to A0h {:02X}h ({}), B0h {:02X}h, D0h {:02X}h and a \
+            "read of row 0 begins; set back to A0h {:02X}h ({}), B0h {:02X}h, D0h {:02X}h and a \
              cache register of FFh; WP# stays {}",
             after.a0,
             protection::words(self.device.geometry(), after.a0),
@@ -237,15 +238,6 @@ impl<W: Write> Tracer<W> {
         );
         text += &self.status_change(&before);
         self.line(text)
-    }
-
-    fn cut(&self, operation: &Operation) -> String {
-        format!(
-            "{} cut after {} of {} units",
-            self.operation_name(operation),
-            operation.units,
-            length(operation.job, self.device.geometry())
-        )
     }
 
     /// The instruction of a transfer with its addresses and data.
@@ -381,9 +373,31 @@ impl<W: Write> Tracer<W> {
             } else {
                 self.failure(u16::from_be_bytes([high, low]), after)
             }),
-            [0xFF] => before.operation().map(|operation| self.cut(&operation)),
+            [0xFF] => Some(self.reset(before)),
             _ => None,
         }
+    }
+
+    /// What a reset did: it cuts the operation in progress, if there is one, and then is one
+    /// itself. The status is told where it stays, too: busy still. The state is that before it.
+    fn reset(&self, before: &State) -> String {
+        let (after, geometry) = (self.device.state(), self.device.geometry());
+        let mut text = match before.operation() {
+            None => self.begun(after),
+            Some(operation) if operation.job == Job::Reset => {
+                let units = operation::units(&operation, geometry);
+                format!("reset begins anew after {units}")
+            }
+            Some(operation) => {
+                let cut = operation::cut(&operation, geometry);
+                format!("{cut}, {}", self.begun(after))
+            }
+        };
+        if before.c0 == after.c0 {
+            let words = status_words(after.c0);
+            let _ = write!(text, "; status stays {:02X}h ({words})", after.c0);
+        }
+        text
     }
 
     fn begun(&self, state: &State) -> String {
@@ -392,8 +406,8 @@ impl<W: Write> Tracer<W> {
             let outside = usize::from(operation.row) >= geometry.counts_len();
             format!(
                 "{} begins, {} units{}",
-                self.operation_name(&operation),
-                length(operation.job, geometry),
+                operation::name(&operation, geometry),
+                geometry.operation_len(operation.job),
                 if outside { ", all FFh" } else { "" }
             )
         })
@@ -445,16 +459,6 @@ impl<W: Write> Tracer<W> {
         format!("; status {before:02X}h -> {after:02X}h ({words})")
     }
 
-    fn operation_name(&self, operation: &Operation) -> String {
-        let row = operation.row;
-        match operation.job {
-            Job::Read => format!("read of row {row}"),
-            Job::Program => format!("program of row {row}"),
-            Job::Erase => format!("erase of block {}", block(row, self.device.geometry())),
-            Job::Reset => "reset".into(),
-        }
-    }
-
     /// A line for the record under way.
     fn line(&mut self, text: String) -> io::Result<()> {
         match &mut self.transfer {
@@ -491,19 +495,6 @@ fn level_word(high: bool) -> &'static str {
 
 fn column(high: u8, low: u8) -> usize {
     usize::from(u16::from_be_bytes([high & 0x0F, low]))
-}
-
-fn block(row: u16, geometry: &Geometry) -> u32 {
-    u32::from(row) / geometry.pages
-}
-
-/// The units of an operation.
-fn length(job: Job, geometry: &Geometry) -> usize {
-    match job {
-        Job::Read | Job::Program => geometry.cache_len(),
-        Job::Erase => geometry.cache_len() * geometry.pages as usize,
-        Job::Reset => 8,
-    }
 }
 
 /// The bits of a status register in words.
