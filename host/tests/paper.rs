@@ -537,29 +537,33 @@ fn orderly_logs_with_resets() {
     let reset = transfer(&[0xFF]);
     let poll = transfer(&[0x0F, 0xC0, 0x00]);
     let enable = transfer(&[0x06]);
-    let orderly = [
-        [&reset[..], &work(8)].concat(),
-        [&reset[..], &poll, &work(7), &poll, &work(1), &poll].concat(),
-        [&reset[..], &work(8), &enable, &reset, &work(8)].concat(),
-        [&[1, 2, 0xFF][..], &work(8), &[3], &work(8)].concat(),
+    let cases = [
+        (true, [&reset[..], &work(8)].concat()),
+        (
+            true,
+            [&reset[..], &poll, &work(7), &poll, &work(1), &poll].concat(),
+        ),
+        (
+            true,
+            [&reset[..], &work(8), &enable, &reset, &work(8)].concat(),
+        ),
+        (false, reset.clone()),
+        (false, [&reset[..], &work(7)].concat()),
+        (false, [&reset[..], &work(5), &reset, &work(8)].concat()),
+        (false, [&reset[..], &enable, &work(8)].concat()),
+        (false, [&reset[..], &work(7), &[6], &work(20)].concat()),
     ];
-    let not = [
-        reset.clone(),
-        [&reset[..], &work(7)].concat(),
-        [&reset[..], &work(5), &reset, &work(8)].concat(),
-        [&reset[..], &enable, &work(8)].concat(),
-        [&reset[..], &work(7), &[6], &work(20)].concat(),
-    ];
-    let logs = orderly.iter().map(|log| (log, true));
-    for (log, expected) in logs.chain(not.iter().map(|log| (log, false))) {
-        let case = bench(idle(0x00), log);
-        let (geometry, state) = (case.geometry, case.state);
+    let begun = cases.map(|(expected, log)| (idle(0x00), log, expected));
+    let within = (resetting(0), work(8), false);
+    for (state, log, expected) in begun.into_iter().chain([within]) {
+        let case = bench(state, &log);
         let mut buffers = case.buffers();
         let (memory, out) = buffers.lent_to_paper();
-        let (_, judged) = paper::judge(&geometry.into(), state.into(), log, memory, out);
+        let part = case.geometry.into();
+        let (_, judged) = paper::judge(&part, state.into(), &log, memory, out);
         assert_eq!(judged, expected, "paper: {log:02X?}");
         let (mut memory, out) = buffers.lent();
-        let (_, judged) = lent::judge(&geometry, state, log, &mut memory, out);
+        let (_, judged) = lent::judge(&case.geometry, state, &log, &mut memory, out);
         assert_eq!(judged, expected, "library: {log:02X?}");
     }
 }
