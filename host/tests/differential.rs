@@ -1055,8 +1055,9 @@ mod completeness {
     fn logs_go_on_behind_resets() {
         let mut begun = [0; 4];
         let mut stopped = [0; 5];
-        let mut commands_within = [0; 8];
-        let (mut commands_behind, mut power_within, mut ended_within) = (0, 0, 0);
+        // Transfers begun within a reset, by the units that it has done.
+        let mut within = [0; 8];
+        let (mut begun_behind, mut power_within, mut ended_within) = (0, 0, 0);
         for number in 0..20_000 {
             let case = Generator::new(seed() ^ 15, number).case();
             let mut behind = false;
@@ -1068,9 +1069,9 @@ mod completeness {
                     _ if answer.refusal.is_some() => {}
                     paper::Record::Shift(_) if before.selected == 1 && before.count == 0 => {
                         if resetting {
-                            commands_within[before.units] += 1;
+                            within[before.units] += 1;
                         }
-                        commands_behind += u32::from(behind);
+                        begun_behind += u32::from(behind);
                     }
                     paper::Record::Deselect if resets(&before, record) => {
                         stopped[usize::from(before.job)] += 1;
@@ -1090,9 +1091,8 @@ mod completeness {
         let [_, _, programs, erases] = begun;
         assert!(programs > 1900 && erases > 1900, "{begun:?}");
         assert!(stopped.iter().all(|&seen| seen > 200), "{stopped:?}");
-        let within = commands_within;
         assert!(within.iter().all(|&seen| seen > 20), "{within:?}");
-        let reached = [commands_behind, power_within, ended_within];
+        let reached = [begun_behind, power_within, ended_within];
         assert!(reached.iter().all(|&seen| seen > 20), "{reached:?}");
     }
 }
