@@ -870,13 +870,12 @@ mod impostors {
             }
         };
         let mut outcome = record_by_record(case, model_on, |record, mut before, buffers| {
-            let first = before.selected == 1 && before.count == 0;
+            let begins = before.selected == 1 && before.count == 0;
             match (record, aside) {
-                (paper::Record::Shift(byte), None) if first && is_resetting(&before) => {
-                    if !matches!(byte, 0x0F | 0x9F | 0xFF) {
-                        aside = Some(before.units);
-                        make_idle(&mut before);
-                    }
+                (paper::Record::Shift(0x0F | 0x9F | 0xFF), _) => {}
+                (paper::Record::Shift(_), None) if begins && is_resetting(&before) => {
+                    aside = Some(before.units);
+                    make_idle(&mut before);
                 }
                 (paper::Record::Work(units), Some(done)) => {
                     aside = Some(done + usize::from(units)).filter(|&done| done < 8);
