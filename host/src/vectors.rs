@@ -157,6 +157,9 @@ fn setup(numbers: &str) -> Result<Case, String> {
     if state.job == 0 && (state.row, state.units) != (0, 0) {
         return Err("a row or units without an operation".into());
     }
+    if state.job == Job::Reset.number() && state.row != 0 {
+        return Err("a row of a reset, which has none".into());
+    }
     let mut fill = || Fill::counting(next() as usize, next() as u8, next() as u8);
     (case.cells, case.cache) = (fill(), fill());
     case.counts = Fill::constant(next() as usize, next() as u8);

@@ -543,12 +543,23 @@ fn any_event(rng: &mut Rng) -> Event {
 
 /// The library, one call a record.
 fn event_by_event(case: &Case) -> Outcome {
+    record_by_record(case, library_on, |record, state, buffers| {
+        Event::of(record).call(&case.geometry, state, buffers)
+    })
+}
+
+/// A case in steps: the checks, which are a run of an empty log, and then record after record.
+fn record_by_record(
+    case: &Case,
+    check: fn(&Case, &mut Buffers) -> Answer,
+    mut step: impl FnMut(paper::Record, State, &mut Buffers) -> Answer,
+) -> Outcome {
     let mut buffers = case.buffers();
     let nothing = Case {
         log: Vec::new(),
         ..case.clone()
     };
-    let mut answer = library_on(&nothing, &mut buffers);
+    let mut answer = check(&nothing, &mut buffers);
     let mut done = std::mem::take(&mut buffers.out);
     while answer.refusal.is_none() {
         let record = match paper::next(&case.log, answer.used) {
@@ -560,7 +571,7 @@ fn event_by_event(case: &Case) -> Outcome {
             }
         };
         buffers.out = done.split_off(answer.written);
-        let one = Event::of(record).call(&case.geometry, answer.state, &mut buffers);
+        let one = step(record, answer.state, &mut buffers);
         done.append(&mut buffers.out);
         answer = Answer {
             records: answer.records + one.records,
@@ -573,6 +584,24 @@ fn event_by_event(case: &Case) -> Outcome {
     Outcome { answer, buffers }
 }
 
+/// The model on one record.
+fn model_step(
+    geometry: &Geometry,
+    record: paper::Record,
+    state: State,
+    buffers: &mut Buffers,
+) -> Answer {
+    let log = Event::of(record).bytes();
+    let (memory, out) = buffers.lent_to_paper();
+    paper::run(&(*geometry).into(), state.into(), &log, memory, out).into()
+}
+
+/// Whether a reset takes effect with a record.
+fn resets(state: &State, record: paper::Record) -> bool {
+    let risen = state.selected == 1 && record == paper::Record::Deselect;
+    risen && (state.instruction, state.count) == (0xFF, 1)
+}
+
 fn raw_record(kind: u8, byte: u8, units: u16) -> RawRecord {
     RawRecord { kind, byte, units }
 }
@@ -581,6 +610,7 @@ fn raw_record(kind: u8, byte: u8, units: u16) -> RawRecord {
 mod impostors {
     use super::*;
     use sleetanvil::case::Subject;
+    use sleetanvil::Job;
 
     const IMPOSTORS: &[(&str, Subject)] = &[
         ("refuses all logs", refuses_all),
@@ -596,6 +626,24 @@ mod impostors {
         ("clears WEL on reset", clears_wel_on_reset),
         ("writes past the output", writes_past),
         ("forgets the third byte", forgets_third),
+        ("resets at once", resets_at_once),
+        ("resets in 7 units", resets_in_7),
+        ("resets in 9 units", resets_in_9),
+        ("resets in no more units than a page has", resets_by_page),
+        ("resets at once from idle", resets_at_once_from_idle),
+        ("goes on with a reset at a second one", goes_on_with_a_reset),
+        (
+            "resumes behind a reset what it stopped",
+            resumes_behind_a_reset,
+        ),
+        (
+            "writes a cache byte by a unit of a reset",
+            writes_while_resetting,
+        ),
+        ("hears a command within a reset", hears_while_resetting),
+        ("takes a reset with 8 units done", takes_8_units),
+        ("takes a reset with a row", takes_a_row),
+        ("keeps the row of what a reset stopped", keeps_the_row),
     ];
 
     #[test]
@@ -713,11 +761,11 @@ mod impostors {
     }
 
     fn clears_wel_on_reset(case: &Case) -> Outcome {
-        let mut outcome = model(case);
-        if case.log.ends_with(&[1, 2, 0xFF, 3]) && outcome.answer.refusal.is_none() {
-            outcome.answer.state.c0 &= !0x02;
-        }
-        outcome
+        with_changes(case, |before, record, after, _| {
+            if resets(before, record) {
+                after.c0 &= !0x02;
+            }
+        })
     }
 
     fn writes_past(case: &Case) -> Outcome {
@@ -732,6 +780,180 @@ mod impostors {
         let mut outcome = model(case);
         outcome.answer.state.third = case.state.third;
         outcome
+    }
+
+    fn resets_at_once(case: &Case) -> Outcome {
+        with_changes(case, |before, record, after, _| {
+            if resets(before, record) {
+                make_idle(after);
+            }
+        })
+    }
+
+    fn resets_in_7(case: &Case) -> Outcome {
+        with_changes(case, |_, _, after, _| {
+            if is_resetting(after) && after.units == 7 {
+                make_idle(after);
+            }
+        })
+    }
+
+    fn resets_in_9(case: &Case) -> Outcome {
+        let mut one_more = false;
+        record_by_record(case, model_on, |mut record, before, buffers| {
+            if let paper::Record::Work(units @ 1..) = &mut record {
+                if is_resetting(&before) && one_more {
+                    *units -= 1;
+                    one_more = false;
+                }
+            }
+            one_more |= resets(&before, record);
+            model_step(&case.geometry, record, before, buffers)
+        })
+    }
+
+    fn resets_by_page(case: &Case) -> Outcome {
+        with_changes(case, |_, _, after, buffers| {
+            if is_resetting(after) && after.units >= buffers.cache.len() {
+                make_idle(after);
+            }
+        })
+    }
+
+    fn resets_at_once_from_idle(case: &Case) -> Outcome {
+        with_changes(case, |before, record, after, _| {
+            if resets(before, record) && before.job == 0 {
+                make_idle(after);
+            }
+        })
+    }
+
+    fn goes_on_with_a_reset(case: &Case) -> Outcome {
+        with_changes(case, |before, record, after, _| {
+            if resets(before, record) && is_resetting(before) {
+                after.units = before.units;
+            }
+        })
+    }
+
+    fn resumes_behind_a_reset(case: &Case) -> Outcome {
+        let mut stopped = None;
+        with_changes(case, |before, record, after, _| {
+            if resets(before, record) {
+                let again = is_resetting(before) || before.job == 0;
+                stopped = if again { stopped } else { Some(*before) };
+            } else if !is_resetting(after) {
+                if let (Some(stopped), true) = (stopped.take(), after.job == 0) {
+                    (after.job, after.row, after.units) = (stopped.job, stopped.row, stopped.units);
+                    after.c0 |= 0x01;
+                }
+            }
+        })
+    }
+
+    fn writes_while_resetting(case: &Case) -> Outcome {
+        with_changes(case, |before, record, _, buffers| {
+            if is_resetting(before) && matches!(record, paper::Record::Work(1..)) {
+                buffers.cache[before.units % case.cache.len] = 0xFF;
+            }
+        })
+    }
+
+    /// While a transfer goes on that should be ignored, the model is told of no reset; its units are
+    /// counted here, and it is put back behind the transfer.
+    fn hears_while_resetting(case: &Case) -> Outcome {
+        let mut aside = None;
+        let put_back = |after: &mut State, aside: Option<usize>| {
+            if let (Some(units), 0) = (aside, after.job) {
+                (after.job, after.units) = (Job::Reset.number(), units);
+                after.c0 |= 0x01;
+            }
+        };
+        let mut outcome = record_by_record(case, model_on, |record, mut before, buffers| {
+            let begins = before.selected == 1 && before.count == 0;
+            match (record, aside) {
+                (paper::Record::Shift(0x0F | 0x9F | 0xFF), _) => {}
+                (paper::Record::Shift(_), None) if begins && is_resetting(&before) => {
+                    aside = Some(before.units);
+                    make_idle(&mut before);
+                }
+                (paper::Record::Work(units), Some(done)) => {
+                    aside = Some(done + usize::from(units)).filter(|&done| done < 8);
+                }
+                _ => {}
+            }
+            let mut answer = model_step(&case.geometry, record, before, buffers);
+            if answer.state.selected == 0 {
+                put_back(&mut answer.state, aside.take());
+            }
+            answer
+        });
+        put_back(&mut outcome.answer.state, aside);
+        outcome
+    }
+
+    fn takes_8_units(case: &Case) -> Outcome {
+        with_state_taken(case, |state| {
+            if is_resetting(state) && state.units == 8 {
+                make_idle(state);
+            }
+        })
+    }
+
+    fn takes_a_row(case: &Case) -> Outcome {
+        with_state_taken(case, |state| {
+            if is_resetting(state) {
+                state.row = 0;
+            }
+        })
+    }
+
+    fn keeps_the_row(case: &Case) -> Outcome {
+        let mut row = case.state.row;
+        let mut outcome = with_changes(case, |before, record, _, _| {
+            if resets(before, record) {
+                row = before.row;
+            }
+        });
+        if is_resetting(&outcome.answer.state) {
+            outcome.answer.state.row = row;
+        }
+        outcome
+    }
+
+    fn is_resetting(state: &State) -> bool {
+        state.job == Job::Reset.number()
+    }
+
+    fn make_idle(state: &mut State) {
+        (state.job, state.row, state.units) = (0, 0, 0);
+        state.c0 &= !0x01;
+    }
+
+    /// The model on a state that was changed, if that is sound; else the state is refused as it was.
+    fn with_state_taken(case: &Case, change: impl FnOnce(&mut State)) -> Outcome {
+        let mut other = case.clone();
+        change(&mut other.state);
+        let outcome = model(&other);
+        match outcome.answer.refusal {
+            Some(refusal) if refusal <= Refusal::BadState => model(case),
+            _ => outcome,
+        }
+    }
+
+    /// The model in steps, with the state behind each record changed, or the memory. The change is
+    /// shown the state before the record, the record and the state behind it.
+    fn with_changes(
+        case: &Case,
+        mut change: impl FnMut(&State, paper::Record, &mut State, &mut Buffers),
+    ) -> Outcome {
+        record_by_record(case, model_on, |record, before, buffers| {
+            let mut answer = model_step(&case.geometry, record, before, buffers);
+            if answer.refusal.is_none() {
+                change(&before, record, &mut answer.state, buffers);
+            }
+            answer
+        })
     }
 
     /// The model on a log whose records were changed, each to one of the same kind.
@@ -797,7 +1019,7 @@ mod completeness {
     #[test]
     fn the_generator_reaches_everything() {
         let mut refusals = [0; 10];
-        let mut jobs = [0; 4];
+        let mut jobs = [0; 5];
         let mut status = [0; 16];
         let mut instructions = [0; 0x101];
         let (mut changed_cells, mut counted, mut past_room) = (0, 0, 0);
@@ -825,5 +1047,51 @@ mod completeness {
         assert!(instructions[0x100] > 200);
         let reached = [changed_cells, counted, past_room];
         assert!(reached.iter().all(|&seen| seen > 1500), "{reached:?}");
+    }
+
+    /// Logs go on within a reset and behind it, and still get on with their work.
+    #[test]
+    fn logs_go_on_behind_resets() {
+        let mut begun = [0; 4];
+        let mut stopped = [0; 5];
+        // Transfers begun within a reset, by the units that it has done.
+        let mut within = [0; 8];
+        let (mut begun_behind, mut power_within, mut ended_within) = (0, 0, 0);
+        for number in 0..20_000 {
+            let case = Generator::new(seed() ^ 15, number).case();
+            let mut behind = false;
+            let outcome = record_by_record(&case, model_on, |record, before, buffers| {
+                let answer = model_step(&case.geometry, record, before, buffers);
+                let after = &answer.state;
+                let resetting = before.job == 4;
+                match record {
+                    _ if answer.refusal.is_some() => {}
+                    paper::Record::Shift(_) if before.selected == 1 && before.count == 0 => {
+                        if resetting {
+                            within[before.units] += 1;
+                        }
+                        begun_behind += u32::from(behind);
+                    }
+                    paper::Record::Deselect if resets(&before, record) => {
+                        stopped[usize::from(before.job)] += 1;
+                    }
+                    paper::Record::Deselect if before.job == 0 && after.job != 0 => {
+                        begun[usize::from(after.job)] += 1;
+                    }
+                    paper::Record::Power => power_within += u32::from(resetting),
+                    _ => {}
+                }
+                behind = after.job == 0 && (behind || resetting);
+                answer
+            });
+            let done = outcome.answer.refusal.is_none();
+            ended_within += u32::from(done && outcome.answer.state.job == 4);
+        }
+        let [_, _, programs, erases] = begun;
+        assert!(programs > 1900 && erases > 1900, "{begun:?}");
+        assert!(stopped.iter().all(|&seen| seen > 200), "{stopped:?}");
+        assert!(within.iter().all(|&seen| seen > 20), "{within:?}");
+        let reached = [begun_behind, power_within, ended_within];
+        assert!(reached.iter().all(|&seen| seen > 20), "{reached:?}");
     }
 }

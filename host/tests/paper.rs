@@ -1,5 +1,6 @@
 //! Document 01's own examples, each worked out from the paper: its replay, its thirteen cases, the
-//! protected blocks as the docs have them, and the errors that look right.
+//! protected blocks as the docs have them, and the errors that look right; and document 02's item 2,
+//! a reset that takes time.
 //!
 //! Each is put to the independent model and to the proved library.
 
@@ -9,7 +10,7 @@ use std::fs;
 use std::path::Path;
 
 use sleetanvil::case::{model, Case, Fill, Outcome, Subject};
-use sleetanvil::{Geometry, Refusal, State};
+use sleetanvil::{lent, paper, raw, Geometry, Job, Operation, Refusal, State};
 use support::compare::library;
 
 const BOTH: [(&str, Subject); 2] = [("paper", model), ("library", library)];
@@ -324,7 +325,247 @@ fn a_zero_stays_a_zero() {
 
 #[test]
 fn reset_leaves_wel() {
-    status_after(idle(0x0E), &transfer(&[0xFF]), 0x02);
+    let reset = transfer(&[0xFF]);
+    status_after(idle(0x0E), &reset, 0x03);
+    status_after(idle(0x0E), &[reset, work(8)].concat(), 0x02);
+}
+
+/// Parts whose pages have fewer bytes than a reset has units, as many, and more.
+fn short_and_long_pages() -> [Geometry; 5] {
+    [1, 7, 8, 20, 4096].map(|data| Geometry {
+        data,
+        spare: 0,
+        pages: 2,
+        blocks: 1,
+        ..Geometry::bench()
+    })
+}
+
+/// A reset in progress, with so many of its units done.
+fn resetting(units: usize) -> State {
+    State {
+        c0: 0x01,
+        job: 4,
+        units,
+        ..idle(0x00)
+    }
+}
+
+#[test]
+fn a_reset_takes_8_units() {
+    for geometry in short_and_long_pages() {
+        for units in [0, 1, 7, 8, 9, 65_535] {
+            let case = Case {
+                state: idle(0x00),
+                cells: Fill::counting(geometry.cells_len(), 3, 7),
+                cache: Fill::constant(geometry.cache_len(), 0x5A),
+                counts: Fill::constant(geometry.counts_len(), 3),
+                ..Case::power_up(geometry, &[transfer(&[0xFF]), work(units)].concat())
+            };
+            let state = if units < 8 {
+                resetting(units.into())
+            } else {
+                idle(0x00)
+            };
+            on_both(&case, |outcome| {
+                assert_eq!(outcome.answer.refusal, None);
+                assert_eq!(outcome.answer.state, state, "{geometry:?}");
+                let mut buffers = case.buffers();
+                buffers.out[0] = 0xFF;
+                assert_eq!(outcome.buffers, buffers, "{geometry:?}");
+            });
+        }
+    }
+}
+
+#[test]
+fn a_reset_is_told_as_an_operation() {
+    let reset = Operation {
+        job: Job::Reset,
+        row: 0,
+        units: 0,
+    };
+    for code in [0x13, 0x10, 0xD8] {
+        let log = [transfer(&[code, 0, 0, 5]), work(3), transfer(&[0xFF])].concat();
+        on_both(&bench(idle(0x02), &log), |outcome| {
+            assert_eq!(outcome.answer.state.operation(), Some(reset), "{code:02X}h");
+        });
+    }
+    for geometry in short_and_long_pages() {
+        let part = geometry.into();
+        assert_eq!(paper::operation_length(&part, 4), 8);
+        assert_eq!(raw::operation_length(geometry, 4), 8);
+        for units in [0, 1, 7] {
+            let state = resetting(units);
+            assert_eq!(paper::units_left(&part, state.into()), 8 - units);
+            assert_eq!(state.units_left(&geometry), 8 - units);
+        }
+    }
+    let unsound = Geometry {
+        data: 0,
+        ..Geometry::bench()
+    };
+    assert_eq!(paper::operation_length(&unsound.into(), 4), 0);
+    assert_eq!(raw::operation_length(unsound, 4), 0);
+    assert_eq!(paper::units_left(&unsound.into(), resetting(7).into()), 0);
+    assert_eq!(resetting(7).units_left(&unsound), 0);
+}
+
+#[test]
+fn a_reset_within_a_reset_starts_anew() {
+    let first = [transfer(&[0xFF]), work(5)].concat();
+    for (units, state) in [
+        (0, resetting(0)),
+        (3, resetting(3)),
+        (7, resetting(7)),
+        (8, idle(0x00)),
+    ] {
+        let log = [&first[..], &transfer(&[0xFF]), &work(units)].concat();
+        on_both(&bench(idle(0x00), &log), |outcome| {
+            assert_eq!(outcome.answer.state, state);
+        });
+    }
+    let too_long = [&first[..], &transfer(&[0xFF, 0xFF])].concat();
+    on_both(&bench(idle(0x00), &too_long), |outcome| {
+        assert_eq!(outcome.answer.state, resetting(5));
+    });
+}
+
+#[test]
+fn commands_within_a_reset_are_ignored() {
+    let (reset, enable) = (transfer(&[0xFF]), transfer(&[0x06]));
+    let ignored = [
+        [&reset[..], &enable, &work(8)].concat(),
+        [&reset[..], &work(7), &enable, &work(1)].concat(),
+        [&reset[..], &[1, 2, 0x06], &work(8), &[3]].concat(),
+    ];
+    for log in ignored {
+        status_after(idle(0x00), &log, 0x00);
+    }
+    let heard = [
+        [&reset[..], &work(8), &enable].concat(),
+        [&reset[..], &[1], &work(8), &[2, 0x06, 3]].concat(),
+    ];
+    for log in heard {
+        status_after(idle(0x00), &log, 0x02);
+    }
+}
+
+#[test]
+fn a_reset_clears_the_fail_bits_at_once() {
+    for (before, within) in [(0x04, 0x01), (0x08, 0x01), (0x0C, 0x01), (0x0E, 0x03)] {
+        status_after(idle(before), &transfer(&[0xFF]), within);
+    }
+}
+
+#[test]
+fn status_and_identity_are_told_within_a_reset() {
+    let log = [
+        transfer(&[0xFF]),
+        transfer(&[0x0F, 0xC0, 0x00]),
+        transfer(&[0x9F, 0x00, 0x00, 0x00]),
+        work(8),
+        transfer(&[0x0F, 0xC0, 0x00]),
+    ]
+    .concat();
+    on_both(&bench(idle(0x02), &log), |outcome| {
+        let out = &outcome.buffers.out[1..outcome.answer.written];
+        let expected = [0xFF, 0xFF, 0x03, 0xFF, 0xFF, 0x5A, 0x01, 0xFF, 0xFF, 0x02];
+        assert_eq!(out, expected);
+    });
+}
+
+#[test]
+fn power_loss_within_a_reset() {
+    let log = [&transfer(&[0xFF])[..], &work(5), &[6]].concat();
+    on_both(&bench(idle(0x02), &log), |outcome| {
+        assert_eq!(outcome.answer.state, State::power_up());
+    });
+    status_after(idle(0x00), &[&log[..], &work(19)].concat(), 0x01);
+    status_after(idle(0x00), &[&log[..], &work(20)].concat(), 0x00);
+}
+
+#[test]
+fn states_with_a_reset_in_progress() {
+    let sound = |state| {
+        on_both(&bench(state, &[]), |outcome| {
+            assert_eq!(
+                (outcome.answer.refusal, outcome.answer.state),
+                (None, state)
+            );
+        });
+    };
+    let in_a_transfer = |instruction| State {
+        selected: 1,
+        count: 1,
+        instruction,
+        ..resetting(3)
+    };
+    sound(resetting(0));
+    sound(resetting(7));
+    sound(in_a_transfer(0x0F));
+
+    let without_oip = State {
+        c0: 0x00,
+        ..resetting(0)
+    };
+    let with_a_row = State {
+        row: 1,
+        ..resetting(0)
+    };
+    for state in [
+        resetting(8),
+        resetting(usize::MAX),
+        in_a_transfer(0x06),
+        without_oip,
+        with_a_row,
+    ] {
+        refused(&bench(state, &[]), Refusal::BadState);
+    }
+    for geometry in short_and_long_pages() {
+        for (units, sound) in [(7, true), (8, false)] {
+            let state = resetting(units);
+            assert_eq!(paper::State::from(state).is_sound(&geometry.into()), sound);
+            assert_eq!(state.is_sound(&geometry), sound);
+        }
+    }
+}
+
+/// Demand 3: a reset's own units are busy ones.
+#[test]
+fn orderly_logs_with_resets() {
+    let reset = transfer(&[0xFF]);
+    let poll = transfer(&[0x0F, 0xC0, 0x00]);
+    let enable = transfer(&[0x06]);
+    let cases = [
+        (true, [&reset[..], &work(8)].concat()),
+        (
+            true,
+            [&reset[..], &poll, &work(7), &poll, &work(1), &poll].concat(),
+        ),
+        (
+            true,
+            [&reset[..], &work(8), &enable, &reset, &work(8)].concat(),
+        ),
+        (false, reset.clone()),
+        (false, [&reset[..], &work(7)].concat()),
+        (false, [&reset[..], &work(5), &reset, &work(8)].concat()),
+        (false, [&reset[..], &enable, &work(8)].concat()),
+        (false, [&reset[..], &work(7), &[6], &work(20)].concat()),
+    ];
+    let begun = cases.map(|(expected, log)| (idle(0x00), log, expected));
+    let within = (resetting(0), work(8), false);
+    for (state, log, expected) in begun.into_iter().chain([within]) {
+        let case = bench(state, &log);
+        let mut buffers = case.buffers();
+        let (memory, out) = buffers.lent_to_paper();
+        let part = case.geometry.into();
+        let (_, judged) = paper::judge(&part, state.into(), &log, memory, out);
+        assert_eq!(judged, expected, "paper: {log:02X?}");
+        let (mut memory, out) = buffers.lent();
+        let (_, judged) = lent::judge(&case.geometry, state, &log, &mut memory, out);
+        assert_eq!(judged, expected, "library: {log:02X?}");
+    }
 }
 
 #[test]

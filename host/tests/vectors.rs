@@ -64,6 +64,7 @@ fn what_is_no_vector_is_refused() {
         "v|10 4 4 8 38 10 1 40 1 2|",
         "v|10 4 4 8 38 10 1 40 1 0 0 0 0 0 0 0 14 0 0|",
         "v|10 4 4 8 38 10 0 40 1 0 0 0 0 0 0 0 0 1 0|",
+        "v|10 4 4 8 38 10 1 40 1 0 0 0 0 0 0 0 FF 1 7|",
         "v|10 4 4 8 0 10 0 40 1 0 0 0 0 0 0 0 0 0 0 10001|",
         "v|1G|",
         "v|1a|",
@@ -77,4 +78,5 @@ fn what_is_no_vector_is_refused() {
         assert!(line(vector).is_err(), "{vector}");
     }
     assert!(line(&long.replacen("06", "", 1)).is_ok());
+    assert!(line("v|10 4 4 8 38 10 1 40 1 0 0 0 0 0 0 0 FF 0 7|").is_ok());
 }

@@ -1,7 +1,7 @@
 //! Prints the expected lines of the project's vectors, by the paper's model.
 //!
-//! Nothing of the proved library is asked. A change of document 01, or more vectors, are carried
-//! into the expected lines so, from the top of the project:
+//! Nothing of the proved library is asked. A change of the papers, or more vectors, are carried into
+//! the expected lines so, from the top of the project:
 //!
 //! ```text
 //! cargo run --release --manifest-path host/Cargo.toml --bin vectors > crates/vectors/stdout

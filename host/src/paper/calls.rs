@@ -56,24 +56,20 @@ pub fn peek(part: &Part, state: State, cache: &[u8], byte: u8) -> Result<u8, Ref
 
 /// The units of a job by its number; 0 for any other number, and on a part that is not sound.
 pub fn operation_length(part: &Part, job: u8) -> usize {
-    let Some(array) = part.array() else {
-        return 0;
-    };
-    let job = match job {
-        1 => Job::Read,
-        2 => Job::Program,
-        3 => Job::Erase,
-        _ => return 0,
-    };
-    job.length(&array)
+    match (part.array(), Job::of_numbers(job, 0)) {
+        (Some(array), Some(job)) => job.length(array.page, array.pages),
+        _ => 0,
+    }
 }
 
 /// The units that the operation in progress has left; 0 where the part or the state is not sound.
 pub fn units_left(part: &Part, state: State) -> usize {
-    let machine = part.array().and_then(|_| Machine::new(&state, part));
-    match machine.and_then(|machine| machine.operation) {
-        Some(Operation { job, units, .. }) => operation_length(part, job as u8) - units,
-        None => 0,
+    let operation = Machine::new(&state, part).and_then(|machine| machine.operation);
+    match (part.array(), operation) {
+        (Some(array), Some(Operation { job, units })) => {
+            job.length(array.page, array.pages) - units
+        }
+        _ => 0,
     }
 }
 

@@ -89,7 +89,7 @@ impl Device<'_> {
             (Some(Instruction::SetFeature), 3) => {
                 registers.write(transfer.bytes[0], transfer.bytes[1], wp_high);
             }
-            (Some(Instruction::PageRead), 4) => self.machine.begin(Job::Read, transfer.row()),
+            (Some(Instruction::PageRead), 4) => self.machine.begin(Job::Read(transfer.row())),
             (Some(Instruction::Program), 4) => self.program(transfer.row()),
             (Some(Instruction::Erase), 4) => self.erase(transfer.row()),
             (Some(Instruction::Reset), 1) => self.machine.reset(),
@@ -106,7 +106,7 @@ impl Device<'_> {
             self.machine.registers.flags |= PROGRAM_FAILED;
         } else {
             self.memory.counts[place] += 1;
-            self.machine.begin(Job::Program, row);
+            self.machine.begin(Job::Program(row));
         }
     }
 
@@ -120,7 +120,7 @@ impl Device<'_> {
             let pages = self.array.pages;
             let first = self.array.block_of(row) * pages;
             self.memory.counts[first..first + pages].fill(0);
-            self.machine.begin(Job::Erase, row);
+            self.machine.begin(Job::Erase(row));
         }
     }
 

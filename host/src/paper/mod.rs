@@ -1,6 +1,6 @@
-//! An independent model of document 01, written from the paper and the project's decisions alone; and
-//! of document 02 what is no part of the device: the parameter page, the keeper of the bus and the
-//! card.
+//! An independent model, written from the papers and the project's decisions alone: the device as
+//! document 01 has it, changed by document 02's item 2 (a reset takes time), and beside the device
+//! document 02's parameter page, keeper of the bus and card.
 //!
 //! It shares no code and no type with the proved library. The tests compare the two on random
 //! contents of all their inputs, sound and not, and the benchmark takes this model as what a good
@@ -10,7 +10,7 @@
 //! unsound ones can be told apart. A sound one is turned into a `Machine`, whose types leave no
 //! room for the unsound, and back into numbers at the end.
 //!
-//! One module per subject, and what a section of the paper says of it stands there alone:
+//! One module per subject, and what the papers say of it stands there alone:
 //!
 //! | module | subject |
 //! |---|---|

@@ -43,8 +43,9 @@ impl State {
 }
 
 impl Device<'_> {
-    /// Whether a record may come now in an orderly log: while the array is busy no instruction begins
-    /// but 0Fh, 9Fh and FFh, and no reset and no power loss takes effect.
+    /// Whether a record may come now in an orderly log: while the array is busy, by a reset's own
+    /// units too, no instruction begins but 0Fh, 9Fh and FFh, and no reset and no power loss takes
+    /// effect.
     fn is_orderly(&self, record: Record) -> bool {
         let Machine {
             selected, transfer, ..

@@ -88,6 +88,11 @@ impl Array {
         usize::from(row) < self.rows()
     }
 
+    /// The first cell of a row.
+    pub fn page_of(&self, row: u16) -> usize {
+        usize::from(row) * self.page
+    }
+
     pub fn block_of(&self, row: u16) -> usize {
         usize::from(row) / self.pages
     }

@@ -105,6 +105,9 @@ impl Machine {
             bytes,
             column,
         } = self.transfer;
+        let (job, row) = self
+            .operation
+            .map_or((0, 0), |operation| operation.job.numbers());
         State {
             a0: self.registers.a0,
             b0: self.registers.b0,
@@ -114,10 +117,10 @@ impl Machine {
             selected: self.selected.into(),
             count,
             bytes,
-            job: self.operation.map_or(0, |operation| operation.job as u8),
+            job,
             instruction: instruction.map_or(State::IGNORED, |instruction| instruction as u16),
             column,
-            row: self.operation.map_or(0, |operation| operation.row),
+            row,
             units: self.operation.map_or(0, |operation| operation.units),
         }
     }

@@ -5,6 +5,9 @@ use sleetanvil::{paper, Geometry, State};
 
 use super::rng::Rng;
 
+/// The units of a reset, on every part.
+const RESET_UNITS: usize = 8;
+
 /// The codes that the state keeps.
 pub const CODES: [u8; 12] = [
     0x06, 0x04, 0x0F, 0x1F, 0x9F, 0x13, 0x03, 0x02, 0x84, 0x10, 0xD8, 0xFF,
@@ -223,10 +226,8 @@ impl Generator {
             ..paper::State::POWER_UP.into()
         };
         if rng.percent(40) {
-            begin_operation(rng, geometry, &mut state);
-            if state.selected == 1 && state.count > 0 {
-                state.instruction = rng.pick(&[0x0F, 0x9F, 0xFF, State::IGNORED]);
-            }
+            let job = rng.within(1, 4) as u8;
+            begin_operation(rng, geometry, &mut state, job);
         }
         if let 0x13 | 0x10 | 0xD8 = state.instruction {
             let [_, high, low] = row_bytes(rng, geometry);
@@ -253,7 +254,7 @@ impl Generator {
     fn break_clause(&mut self, geometry: &Geometry, state: &mut State) {
         let rng = &mut self.rng;
         let (page, pages, rows) = sizes(geometry);
-        match rng.below(18) {
+        match rng.below(20) {
             0 => state.a0 |= rng.pick(&[0x40, 0x02, 0x01]),
             1 => state.b0 |= rng.byte() & 0xEE,
             2 => state.c0 |= 0x10 << rng.below(4),
@@ -264,15 +265,26 @@ impl Generator {
             7 => state.wp = rng.pick(&[2, 3, 255]),
             8 => state.selected = rng.pick(&[2, 128, 255]),
             9 => state.instruction = rng.pick(&[0, 1, 5, 0x0B, 0x55, 0x101, 0x106, 0x1FF, 0xFF06]),
-            10 => state.job = rng.pick(&[4, 5, 255]),
+            10 => state.job = rng.pick(&[5, 6, 255]),
             11 => (state.job, state.row) = (0, rng.word()),
             12 => (state.job, state.units) = (0, rng.pick(&[1, 20, usize::MAX])),
             13 => (state.job, state.units) = (1, page),
             14 => (state.job, state.units) = (2, rng.pick(&[page, page + 1, usize::MAX])),
             15 => (state.job, state.units) = (3, rng.pick(&[page * pages, usize::MAX])),
             16 => (state.job, state.row) = (rng.pick(&[2, 3]), rows.min(65_535) as u16),
+            17 => {
+                begin_operation(rng, geometry, state, 4);
+                let long = page.max(RESET_UNITS);
+                state.units =
+                    rng.pick(&[RESET_UNITS, RESET_UNITS, RESET_UNITS + 1, long, usize::MAX]);
+            }
+            18 => {
+                begin_operation(rng, geometry, state, 4);
+                state.row = rng.pick(&[1, rows.min(65_535) as u16, rng.clone().word()]);
+            }
             _ => {
-                begin_operation(rng, geometry, state);
+                let job = rng.within(1, 4) as u8;
+                begin_operation(rng, geometry, state, job);
                 state.selected = 1;
                 state.count = rng.within(1, 5) as u8;
                 state.instruction = rng.pick(&CODES).into();
@@ -281,22 +293,30 @@ impl Generator {
     }
 }
 
-fn begin_operation(rng: &mut Rng, geometry: &Geometry, state: &mut State) {
+/// Put a job in progress into a state, with an instruction that may be under way then.
+fn begin_operation(rng: &mut Rng, geometry: &Geometry, state: &mut State, job: u8) {
     let (page, pages, rows) = sizes(geometry);
     state.c0 |= 0x01;
-    state.job = rng.within(1, 3) as u8;
-    let length = if state.job == 3 { page * pages } else { page };
+    state.job = job;
+    let length = match job {
+        3 => page * pages,
+        4 => RESET_UNITS,
+        _ => page,
+    };
     state.units = match rng.below(3) {
         0 => 0,
         1 => length - 1,
         _ => rng.below(length),
     };
     let inside = rows.min(65_536);
-    state.row = if state.job == 1 && rng.percent(30) {
-        rng.word()
-    } else {
-        rng.pick(&[0, inside - 1, rng.clone().below(inside)]) as u16
+    state.row = match job {
+        1 if rng.percent(30) => rng.word(),
+        4 => 0,
+        _ => rng.pick(&[0, inside - 1, rng.clone().below(inside)]) as u16,
     };
+    if state.selected == 1 && state.count > 0 {
+        state.instruction = rng.pick(&[0x0F, 0x9F, 0xFF, State::IGNORED]);
+    }
 }
 
 fn instruction(rng: &mut Rng) -> u16 {
@@ -377,7 +397,7 @@ impl Generator {
             geometry,
             log: Vec::new(),
         };
-        if script.rng.percent(40) {
+        if script.rng.percent(45) {
             script.wake();
         }
         for _ in 0..script.rng.within(0, steps) {
@@ -436,7 +456,7 @@ impl Script<'_> {
             13 => self.read_cache(),
             14 | 15 => self.work(),
             16 => self.aside(),
-            17 => self.reset(),
+            17 => self.cut(),
             _ => self.finish(),
         }
     }
@@ -445,9 +465,10 @@ impl Script<'_> {
     fn wake(&mut self) {
         let (page, ..) = sizes(self.geometry);
         if self.rng.percent(50) {
-            self.units(page);
+            self.units(page.max(RESET_UNITS));
         } else {
             self.transfer(&[0xFF]);
+            self.units(RESET_UNITS);
         }
         self.transfer(&[0x1F, 0xA0, 0x00]);
     }
@@ -476,6 +497,9 @@ impl Script<'_> {
             bytes.truncate(self.rng.below(bytes.len() + 1));
         }
         self.transfer(&bytes);
+        if bytes == [0xFF] && self.rng.percent(70) {
+            self.recover();
+        }
     }
 
     fn program(&mut self) {
@@ -541,11 +565,37 @@ impl Script<'_> {
         self.transfer(&bytes);
     }
 
+    /// A reset, now and then one more, and what comes behind them.
     fn reset(&mut self) {
+        self.transfer(&[0xFF]);
+        self.recover();
+        if self.rng.percent(10) {
+            self.reset();
+        }
+    }
+
+    /// The work behind a reset: mostly all that it takes, so that the log gets on; else nearly all,
+    /// a little or none.
+    fn recover(&mut self) {
+        let units = match self.rng.below(20) {
+            0 => return,
+            1 => 0,
+            2 => 1,
+            3 => self.rng.below(RESET_UNITS),
+            4 | 5 => RESET_UNITS - 1,
+            6..=15 => RESET_UNITS,
+            16 | 17 => RESET_UNITS + 1,
+            _ => return self.work(),
+        };
+        self.units(units);
+    }
+
+    /// A reset, now or after some work.
+    fn cut(&mut self) {
         if self.rng.percent(50) {
             self.work();
         }
-        self.transfer(&[0xFF]);
+        self.reset();
     }
 
     /// The operation runs to its end, is cut, or is left as it is.
@@ -555,7 +605,7 @@ impl Script<'_> {
             0..=3 => self.units(page * pages),
             4 | 5 => self.units(page),
             6 | 7 => self.work(),
-            8 => self.reset(),
+            8 => self.cut(),
             _ => {}
         }
         if self.rng.percent(40) {

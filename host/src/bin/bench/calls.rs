@@ -5,10 +5,10 @@ use std::hint::black_box;
 
 use sleetanvil::case::Buffers;
 use sleetanvil::raw::{self, RawAnswer};
-use sleetanvil::{lent, paper, Geometry, Log, State};
+use sleetanvil::{lent, paper, Answer, Geometry, Log, State};
 
 use super::naive::Naive;
-use super::{best, idle, load, mixed, Times};
+use super::{best, check, idle, load, mixed, Run, Task, Times};
 
 const POLL: [u8; 3] = [0x0F, 0xC0, 0x00];
 
@@ -30,12 +30,12 @@ pub fn compare(geometry: &Geometry, buffers: &mut Buffers) {
         ("one transfer per call, a page read out", &read_out),
         ("one transfer per call, a page loaded", &load_in),
     ] {
-        check(geometry, buffers, &mut naive, di);
+        check_transfer(geometry, buffers, &mut naive, di);
         let times = transfers(geometry, buffers, &mut naive, di);
         println!("{}", times.row(name, "transfer", 1));
     }
     let mixed = mixed(geometry);
-    let times = judgement(geometry, buffers, &mixed.log);
+    let times = judgement(geometry, buffers, &mixed);
     println!(
         "{}",
         times.row("judge, mixed driver log", "record", mixed.count)
@@ -48,7 +48,7 @@ fn naive(geometry: &Geometry) -> Naive {
 }
 
 /// All three answer a transfer alike.
-fn check(geometry: &Geometry, buffers: &mut Buffers, naive: &mut Naive, di: &[u8]) {
+fn check_transfer(geometry: &Geometry, buffers: &mut Buffers, naive: &mut Naive, di: &[u8]) {
     naive.cache().copy_from_slice(&buffers.cache);
     let (mut memory, out) = buffers.lent();
     let library = raw::transfer(*geometry, idle(), di, &mut memory, out);
@@ -127,18 +127,15 @@ fn transfers(geometry: &Geometry, buffers: &mut Buffers, naive: &mut Naive, di: 
 }
 
 /// A log judged.
-fn judgement(geometry: &Geometry, buffers: &mut Buffers, log: &Log) -> Times {
-    let state = State::power_up();
-    let (mut memory, out) = buffers.lent();
-    let (_, orderly) = lent::judge(geometry, state, log.as_bytes(), &mut memory, out);
-    let (memory, out) = buffers.lent_to_paper();
-    let (_, as_model) = paper::judge(
-        &(*geometry).into(),
-        state.into(),
-        log.as_bytes(),
-        memory,
-        out,
-    );
+fn judgement(geometry: &Geometry, buffers: &mut Buffers, task: &Task) -> Times {
+    let (log, state) = (&task.log, task.states[0]);
+    let runs: [Run; 2] = [
+        |log, state, geometry, buffers| judge_library(log, state, geometry, buffers).0,
+        |log, state, geometry, buffers| judge_paper(log, state, geometry, buffers).0,
+    ];
+    check(task, geometry, buffers, runs);
+    let (_, orderly) = judge_library(log, &state, geometry, buffers);
+    let (_, as_model) = judge_paper(log, &state, geometry, buffers);
     assert_eq!(orderly, as_model);
     let [library, model] = best(
         [
@@ -162,6 +159,28 @@ fn judgement(geometry: &Geometry, buffers: &mut Buffers, log: &Log) -> Times {
         naive: None,
         limit: None,
     }
+}
+
+fn judge_library(
+    log: &Log,
+    state: &State,
+    geometry: &Geometry,
+    buffers: &mut Buffers,
+) -> (Answer, bool) {
+    let (mut memory, out) = buffers.lent();
+    lent::judge(geometry, *state, log.as_bytes(), &mut memory, out)
+}
+
+fn judge_paper(
+    log: &Log,
+    state: &State,
+    geometry: &Geometry,
+    buffers: &mut Buffers,
+) -> (Answer, bool) {
+    let (memory, out) = buffers.lent_to_paper();
+    let (part, state) = ((*geometry).into(), (*state).into());
+    let (answer, orderly) = paper::judge(&part, state, log.as_bytes(), memory, out);
+    (answer.into(), orderly)
 }
 
 /// The paper's model on one event, as the library's functions take and give it.

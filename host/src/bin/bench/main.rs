@@ -27,6 +27,8 @@ const TURN: Duration = Duration::from_millis(1);
 
 /// The pages that a mixed driver log programs and reads back.
 const MIXED_PAGES: usize = 16;
+/// The units of the reset that it begins with.
+const RESET_UNITS: usize = 8;
 /// The block it uses, and the block whose pages the others take in turn.
 const MIXED_BLOCK: usize = 100;
 const BLOCK: usize = 200;
@@ -50,7 +52,10 @@ fn main() {
 fn compare(geometry: &Geometry, tasks: Vec<Task>) {
     let mut buffers = buffers(geometry);
     for task in tasks {
-        check(&task, geometry, &mut buffers);
+        let model = |log: &Log, state: &State, geometry: &Geometry, buffers: &mut Buffers| {
+            run_paper(log, state, geometry, buffers).into()
+        };
+        check(&task, geometry, &buffers, [run_library, model]);
         let mut times = measure(&task, &task.log, geometry, &mut buffers);
         if let Some(log) = &task.less {
             let less = measure(&task, log, geometry, &mut buffers);
@@ -309,8 +314,8 @@ fn program(buffers: &mut Buffers, first: usize, units: usize) {
     }
 }
 
-/// What drivers do: probe, unlock, erase a block, program pages by both load forms, read them back,
-/// and poll all along.
+/// What drivers do: reset and probe, unlock, erase a block, program pages by both load forms, read
+/// them back, and poll all along.
 fn mixed(geometry: &Geometry) -> Task {
     let (page, pages) = (geometry.cache_len(), geometry.pages as usize);
     let data_bytes = geometry.data as usize;
@@ -318,8 +323,7 @@ fn mixed(geometry: &Geometry) -> Task {
     let data: Vec<u8> = (0..page).map(|place| place as u8 ^ 0xA5).collect();
 
     let mut driver = Driver { log: Log::new() };
-    driver.transfer(&[0xFF]);
-    driver.poll();
+    driver.operate(&[0xFF], RESET_UNITS);
     driver.transfer(&[0x9F, 0x00, 0x00, 0x00]);
     driver.transfer(&[0x1F, 0xA0, 0x00]);
     driver.transfer(&[0x06]);
@@ -343,6 +347,7 @@ fn mixed(geometry: &Geometry) -> Task {
     let limit = move |_: &State, buffers: &mut Buffers| {
         let cells = first * page;
         buffers.cells[cells..cells + page * pages].fill(0xFF);
+        buffers.counts[first..first + pages].fill(0);
         for place in 0..MIXED_PAGES {
             if place % 2 == 0 {
                 buffers.cache.fill(0xFF);
@@ -351,6 +356,7 @@ fn mixed(geometry: &Geometry) -> Task {
                 buffers.cache.copy_from_slice(&data);
             }
             program(buffers, cells + place * page, page);
+            buffers.counts[first + place] += 1;
         }
         for place in 0..MIXED_PAGES {
             read(buffers, cells + place * page, page);
@@ -382,10 +388,15 @@ impl Driver {
         self.transfer(&[0x0F, 0xC0, 0x00]);
     }
 
-    /// An operation on a row, polled while it is done in quarters.
+    /// An operation on a row.
     fn begin(&mut self, code: u8, row: usize, units: usize) {
         let [high, low] = (row as u16).to_be_bytes();
-        self.transfer(&[code, 0x00, high, low]);
+        self.operate(&[code, 0x00, high, low], units);
+    }
+
+    /// An operation, polled while it is done in quarters.
+    fn operate(&mut self, bytes: &[u8], units: usize) {
+        self.transfer(bytes);
         for _ in 0..4 {
             self.poll();
             push_work(&mut self.log, units.div_ceil(4));
@@ -410,13 +421,31 @@ fn run_paper(
     paper::run(&part, (*state).into(), log.as_bytes(), memory, out)
 }
 
-/// Library and model do the same, and all of the log.
-fn check(task: &Task, geometry: &Geometry, buffers: &mut Buffers) {
+/// Something that does a log.
+type Run = fn(&Log, &State, &Geometry, &mut Buffers) -> Answer;
+
+/// Library and model do the same, and all of the log; and they do to the memory what the limit does
+/// to it, so that nothing is measured that did not take place.
+fn check(task: &Task, geometry: &Geometry, buffers: &Buffers, [library, model]: [Run; 2]) {
+    // Memory on which every limit has an effect.
+    let mut start = buffers.clone();
+    start.cache.fill(0x3C);
+    start.counts.fill(3);
+    let (mut first, mut second, mut third) = (start.clone(), start.clone(), start.clone());
     for state in &task.states {
-        let library = run_library(&task.log, state, geometry, buffers);
-        let model = run_paper(&task.log, state, geometry, buffers);
-        assert_eq!(library, model.into());
-        assert_eq!(library.used, task.log.as_bytes().len());
+        let answer = library(&task.log, state, geometry, &mut first);
+        assert_eq!(answer, model(&task.log, state, geometry, &mut second));
+        assert_eq!(answer.used, task.log.as_bytes().len());
+        if let Some(limit) = &task.limit {
+            limit(state, &mut third);
+        }
+    }
+    assert_eq!(third != start, task.limit.is_some(), "{}", task.name);
+    third.out.clone_from(&first.out);
+    for (one, other) in [(&first, &second), (&first, &third)] {
+        for ((name, one), (_, other)) in one.named().into_iter().zip(other.named()) {
+            assert!(one == other, "{}: {name}", task.name);
+        }
     }
 }
 
