@@ -5,18 +5,21 @@ use Prim.Native.Nat.{ℕ, _-_, min}
 use native.Mathlib.Nat.{zero-add}
 use native.Mathlib.Omega.{arith}
 use lib.Dec.{ltb}
-use Rattle.registers.specs.Registers.{registerWritten, oipSet, oipCleared, resetStatus}
-use Rattle.transfer.specs.Transfer.{instructionOf, selects, shiftedIn, cached}
+use Rattle.part.specs.declared.Geometry.{Geometry}
+use Rattle.registers.specs.Registers.{registerWritten, oip, oipSet, oipCleared, resetStatus}
+use Rattle.transfer.specs.Transfer.{instructionOf, heardAs, ends, selects, shiftedIn, cached}
+use Rattle.transfer.specs.declared.Instruction.the-variants.{Reset}
 use Rattle.array.specs.Jobs.{written}
 use Rattle.array.specs.declared.Job.the-variants.{Restart}
 use Rattle.array.proofs.Stores.{restart-none}
 use Rattle.requests.specs.Requests.{programFate, eraseFate}
+use Rattle.device.specs.Machine.{Machine, overBus}
 use Rattle.device.specs.Work.{begins, unitOf, units, stepping}
 use Rattle.device.specs.Instructions.{shifts, programs, erases, resets, effect, acted, deselects}
 use Rattle.device.specs.Step.{off, powered, step, run}
 use Rattle.device.proofs.Units.{units-busy}
 use Rattle.part.specs.Protection.{protects}
-use Rattle.cases.specs.AfterReset.{inReset, afterReset, ResetTakes, ResetAgain, resetCases, AllResetCases}
+use Rattle.cases.specs.AfterReset.{inReset, afterReset, ResetTakes, ResetAgain, reset, ResetSent, resetCases, AllResetCases}
 
 -- ---- for every part and every machine
 
@@ -36,6 +39,21 @@ reset-again g m n = ap (resets (stepping g)) (reset-takes g m n) ∙ go (ltb n 8
     go : (b : Bool) → resets (stepping g) (cond b (inReset n m) (afterReset m)) ≡ resets (stepping g) m
     go true = let q : resetStatus (oipSet (resetStatus c)) ≡ resetStatus c = omega arith in rw q
     go false = let q : resetStatus (resetStatus c) ≡ resetStatus c = omega arith in rw q
+
+-- FFh is a reset, busy or not
+reset-heard : (busy : Bool) → heardAs busy 0xFF ≡ Reset
+unfolding instructionOf
+reset-heard true = refl
+reset-heard false = refl
+
+-- sent to a chip that is not selected it takes effect
+takes-effect : (g : Geometry) (m : Machine) → m .state .bus .transfer .selected ≡ false → run g (stepping g) m reset ≡ resets (stepping g) (overBus ends m)
+unfolding run step selects shifts shiftedIn cached deselects acted effect resets stepping instructionOf
+takes-effect g m e = rw (e, reset-heard (oip (m .state .regs .c0)))
+
+pub reset-sent : ResetSent
+unfolding run step stepping
+reset-sent g m n e = ap (units g n) (takes-effect g m e) ∙ reset-takes g (overBus ends m) n
 
 -- ---- the cases
 

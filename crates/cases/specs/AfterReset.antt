@@ -1,4 +1,5 @@
--- Document 02, item 2: a reset takes time. What comes after one, for every part and every machine; and cases on the bench part, in one table.
+-- Document 02, item 2: a reset takes time. What comes after one, for every part and every machine; and cases on the bench part, one table.
+use mathlib.Core.Bool.{false}
 use mathlib.Core.List.{List, [], _∷_, _++_}
 use mathlib.Core.Path.{_≡_}
 use Prim.Native.Nat.{ℕ}
@@ -11,9 +12,11 @@ use Rattle.buslog.specs.declared.Record.the-variants.{Select, Shift, Deselect, 
 use Rattle.registers.specs.Registers.{oipSet, resetStatus}
 use Rattle.array.specs.declared.Job.the-variants.{Restart}
 use Rattle.array.specs.declared.Work.the-variants.{Idle, Busy}
-use Rattle.device.specs.Machine.{Machine, withStatus, withWork}
+use Rattle.transfer.specs.Transfer.{ends}
+use Rattle.device.specs.Machine.{Machine, withStatus, withWork, overBus}
 use Rattle.device.specs.Work.{units, stepping}
 use Rattle.device.specs.Instructions.{resets}
+use Rattle.device.specs.Step.{run}
 use Rattle.cases.specs.Cases.{Case, _·_⇒_, after, blank, eraseFive, idleStale, idleWith, send, status, tellingFrom, told, wrong}
 
 -- ---- for every part and every machine
@@ -26,7 +29,7 @@ afterReset m = withWork Idle (withStatus (resetStatus (m .state .regs .c0)) m)
 abbrev pub inReset : ℕ → Machine → Machine
 inReset i m = withWork (Busy Restart i) (withStatus (oipSet (resetStatus (m .state .regs .c0))) m)
 
--- with n units of work after it took effect, busy or idle before: busy for exactly 8 units, in which no cell, cache byte or count is touched
+-- with n units of work after it took effect, busy or idle before: busy for exactly 8 units; no cell, cache byte or count is touched
 abbrev pub ResetTakes : Type 0
 ResetTakes = (g : Geometry) (m : Machine) (n : ℕ) → units g n (resets (stepping g) m) ≡ (if ltb n 8 then inReset n m else afterReset m)
 
@@ -34,18 +37,25 @@ ResetTakes = (g : Geometry) (m : Machine) (n : ℕ) → units g n (resets (stepp
 abbrev pub ResetAgain : Type 0
 ResetAgain = (g : Geometry) (m : Machine) (n : ℕ) → resets (stepping g) (units g n (resets (stepping g) m)) ≡ resets (stepping g) m
 
--- ---- cases
-
+-- FFh, a transfer of its own
 abbrev pub reset : List Record
 reset = send (0xFF ∷ [])
+
+-- sent to a chip that is not selected, it takes effect on every machine; and then n units of work
+abbrev pub ResetSent : Type 0
+ResetSent = (g : Geometry) (m : Machine) (n : ℕ) → m .state .bus .transfer .selected ≡ false
+    → run g (stepping g) m (reset ++ Units n ∷ []) ≡ (if ltb n 8 then inReset n (overBus ends m) else afterReset (overBus ends m))
+
+-- ---- cases
 
 -- the status after some records on an idle part, its own status as given
 abbrev pub leaves : ℕ → List Record → List ℕ
 leaves c es = status (after (idleWith 0 c blank) es)
 
--- 1: busy for 8 units, from idle too. 2: WEL stays, both fail bits go at once. 3: a reset within a reset after 5 units is busy for 8 more. 4: 06h
--- first shifted during the 8 units is ignored, even if they end before chip select rises; after them it is heard. 5: document 01's case 13 as
--- before, with the reset's units done too. 6: a read cut after 3 units leaves the rest of the cache register, and so do the reset's units
+-- 1: busy for 8 units, from idle too. 2: WEL stays, both fail bits go at once. 3: a reset within a reset after 5 units is busy for 8 more.
+-- 4: 06h first shifted during the 8 units is ignored, even if they end before chip select rises; after them it is heard. 5: document 01's
+-- case 13 as before, with the reset's units done too. 6: a read cut after 3 units leaves the rest of the cache register, and so do the
+-- reset's units
 unfoldable pub resetCases : List Case
 resetCases =
     1 · (leaves 0 reset ++ leaves 0 (reset ++ Units 7 ∷ []) ++ leaves 0 (reset ++ Units 8 ∷ [])) ⇒ (1 ∷ 1 ∷ 0 ∷ [])

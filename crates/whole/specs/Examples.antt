@@ -83,8 +83,8 @@ rows =
     ∷ []
 
 -- each row is judged as it says. 1 and 2: a driver's log, and the power-up read alone with WP# low, meet every supposition. 3: begun in
--- mid-operation; 4: an instruction begun while busy; 5: a reset that cuts an erase; 6: a power loss that does; 7: ending busy: each lacks one
--- supposition alone, and its two ends differ. 8: the status answers themselves may differ. 9: a reset while idle, with its own units, meets
--- every supposition. 10: a reset within a reset does not, by the letter ("while the array is busy"), though its two ends are one.
+-- mid-operation; 4: an instruction begun while busy; 5: a reset that cuts an erase; 6: a power loss that does; 7: ending busy: each lacks
+-- one supposition alone, and its two ends differ. 8: the status answers themselves may differ. 9: a reset while idle, with its own units,
+-- meets every supposition. 10: a reset within a reset does not, by the letter ("while the array is busy"), though its two ends are one.
 abbrev pub NoneToSpare : Type 0
 NoneToSpare = wrong rows ≡ []

@@ -1,4 +1,5 @@
--- Document 01, "Work of the array", last paragraph: the same machine with every operation done whole as it begins, by the page and block sentences.
+-- Document 01, "Work of the array", last paragraph: the same machine with every operation done whole as it begins, by the page and block
+-- sentences.
 use mathlib.Core.List.{List, [], _∷_}
 use mathlib.Core.Path.{_≡_}
 use Prim.Native.Nat.{ℕ, _*_}
