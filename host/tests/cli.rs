@@ -932,7 +932,7 @@ fn a_device_is_saved_and_goes_on() {
     log.push(Record::Select);
     cut_everywhere(&folder, log.as_bytes());
     let mut logs =
-        (0..).map(|number| Generator::new(0xC07, number).sound_log(&Geometry::bench(), 8));
+        (0..100).map(|number| Generator::new(0xC07, number).sound_log(&Geometry::bench(), 8));
     let log = logs.find(|log| log.len() > 30);
     cut_everywhere(&folder, &log.expect("a log that is not short"));
 }

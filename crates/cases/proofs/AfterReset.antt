@@ -5,6 +5,7 @@ use Prim.Native.Nat.{ℕ, _-_, min}
 use native.Mathlib.Nat.{zero-add}
 use native.Mathlib.Omega.{arith}
 use lib.Dec.{ltb}
+use Rattle.part.specs.Protection.{protects}
 use Rattle.part.specs.declared.Geometry.{Geometry}
 use Rattle.registers.specs.Registers.{registerWritten, oip, oipSet, oipCleared, resetStatus}
 use Rattle.transfer.specs.Transfer.{instructionOf, heardAs, ends, selects, shiftedIn, cached}
@@ -18,7 +19,6 @@ use Rattle.device.specs.Work.{begins, unitOf, units, stepping}
 use Rattle.device.specs.Instructions.{shifts, programs, erases, resets, effect, acted, deselects}
 use Rattle.device.specs.Step.{off, powered, step, run}
 use Rattle.device.proofs.Units.{units-busy}
-use Rattle.part.specs.Protection.{protects}
 use Rattle.cases.specs.AfterReset.{inReset, afterReset, ResetTakes, ResetAgain, reset, ResetSent, resetCases, AllResetCases}
 
 -- ---- for every part and every machine

@@ -11,11 +11,11 @@ use Rattle.buslog.specs.declared.Record.{Record}
 use Rattle.buslog.specs.declared.Record.the-variants.{Select, Shift, Deselect, Units}
 use Rattle.registers.specs.Registers.{oipSet, resetStatus}
 use Rattle.array.specs.declared.Job.the-variants.{Restart}
-use Rattle.array.specs.declared.Work.the-variants.{Idle, Busy}
+use Rattle.array.specs.declared.Work.the-variants.{Busy}
 use Rattle.transfer.specs.Transfer.{ends}
-use Rattle.device.specs.Machine.{Machine, withStatus, withWork, overBus}
+use Rattle.device.specs.Machine.{Machine, withState, withStatus, withWork, overBus}
 use Rattle.device.specs.Work.{units, stepping}
-use Rattle.device.specs.Instructions.{resets}
+use Rattle.device.specs.Instructions.{resetState, resets}
 use Rattle.device.specs.Step.{run}
 use Rattle.cases.specs.Cases.{Case, _·_⇒_, after, blank, eraseFive, idleStale, idleWith, send, status, tellingFrom, told, wrong}
 
@@ -23,11 +23,11 @@ use Rattle.cases.specs.Cases.{Case, _·_⇒_, after, blank, eraseFive, i
 
 -- a reset over: WEL alone is left of the status register, nothing is in progress; all memory is as it was
 abbrev pub afterReset : Machine → Machine
-afterReset m = withWork Idle (withStatus (resetStatus (m .state .regs .c0)) m)
+afterReset m = withState (resetState (m .state)) m
 
 -- a reset with i units done: the same, with OIP 1
 abbrev pub inReset : ℕ → Machine → Machine
-inReset i m = withWork (Busy Restart i) (withStatus (oipSet (resetStatus (m .state .regs .c0))) m)
+inReset i m = withWork (Busy Restart i) (withStatus (oipSet (resetStatus (m .state .regs .c0))) (afterReset m))
 
 -- with n units of work after it took effect, busy or idle before: busy for exactly 8 units; no cell, cache byte or count is touched
 abbrev pub ResetTakes : Type 0
