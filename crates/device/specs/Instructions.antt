@@ -1,5 +1,5 @@
 -- Document 01, "Instructions": a byte shifted in with its answer on DO, and what an instruction does as chip select rises.
-use mathlib.Core.List.{List}
+use mathlib.Core.List.{List, [], _∷_}
 use Prim.Native.Nat.{ℕ}
 use Rattle.part.specs.Choice.{if_then_else_}
 use Rattle.part.specs.declared.Geometry.{Geometry}
@@ -29,6 +29,16 @@ shifts g b m =
 -- the byte on DO meanwhile. (Which byte that is stands with the reply.)
 unfoldable pub answer : Geometry → State → List ℕ → ℕ
 answer g s cache = byteOut g (s .regs) (s .bus) cache
+
+-- bytes shifted in one after another: the machine then
+unfoldable pub fed : Geometry → List ℕ → Machine → Machine
+fed g [] m = m
+fed g (b ∷ bs) m = fed g bs (shifts g b m)
+
+-- and the bytes on DO meanwhile
+unfoldable pub replies : Geometry → List ℕ → Machine → List ℕ
+replies g [] m = []
+replies g (b ∷ bs) m = answer g (m .state) (m .store .cache) ∷ replies g bs (shifts g b m)
 
 -- ---- 10h and D8h. (Whether a request begins, and what it does to the page counts, stands with the requests.)
 

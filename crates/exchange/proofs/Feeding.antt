@@ -14,11 +14,11 @@ use Rattle.transfer.specs.Transfer.{shiftedIn, cached}
 use Rattle.transfer.specs.declared.Bus.{Bus}
 use Rattle.reply.specs.Reply.{byteOut}
 use Rattle.device.specs.Machine.{Machine, onCache, busIn}
-use Rattle.device.specs.Instructions.{answer, shifts}
+use Rattle.device.specs.Instructions.{answer, shifts, fed, replies}
 use Rattle.device.specs.declared.State.{State}
 use Rattle.stream.specs.Streams.{atColumn}
 use Rattle.stream.proofs.Shifting.{Moves}
-use Rattle.exchange.specs.Exchange.{fed, replies, Exchanged}
+use Rattle.exchange.specs.Exchange.{Exchanged}
 
 -- ---- places
 
@@ -142,8 +142,8 @@ module _ {g : Geometry} {s : State} {cache₀ di out₀ cache out : List ℕ} {x
 
   -- one byte in a stream, or one as the bus takes it
   pub along-moves : {c c′ : Column} {cache′ : List ℕ} {v : ℕ} → x ≡ atColumn c s .bus → i < length di → length cache′ ≡ length cache
-      → Moves s c c′ cache cache′ (getD di i 0) v → Along g s cache₀ di out₀ cache′ (set out i v) (atColumn c′ s .bus) (i + 1)
-  along-moves {c} {c′} {cache′} {v} e l k p = along-one (atColumn c′ s .bus) cache′ v l k (λ m. rw e (p g .0 m)) (rw e (p g .1))
+      → Moves g s c c′ cache cache′ (getD di i 0) v → Along g s cache₀ di out₀ cache′ (set out i v) (atColumn c′ s .bus) (i + 1)
+  along-moves {c} {c′} {cache′} {v} e l k p = along-one (atColumn c′ s .bus) cache′ v l k (λ m. rw e (p .0 m)) (rw e (p .1))
 
   pub along-bus : (busy : Bool) (x′ : Bus) (cache′ : List ℕ) (v : ℕ) → i < length di → length cache′ ≡ length cache → busy ≡ oip (s .regs .c0)
       → x′ ≡ shiftedIn g busy (getD di i 0) x → cache′ ≡ cached g x (getD di i 0) cache → v ≡ byteOut g (s .regs) x cache

@@ -1,4 +1,5 @@
 pub mod Feeding
 pub mod Records
 pub mod Pieces
+pub mod ReadOut
 pub mod OneAnswer

@@ -70,7 +70,7 @@ shift-on : (g : Geometry) (busy : Bool) (b : ℕ) (x : Bus) → shiftedIn g busy
 unfolding shiftedIn
 shift-on g busy b x = go (heard x) (eqb (x .transfer .count) 0)
   where
-    go : (a d : Bool) → cond a (withTransfer (cond d (instructed busy b (x .transfer)) (later b (x .transfer))) x) x .transfer .selected ≡ x .transfer .selected
+    go : (a d : Bool) → cond a (withTransfer (cond d (instructed busy b (x .transfer)) (later g b (x .transfer))) x) x .transfer .selected ≡ x .transfer .selected
     go true true = refl
     go true false = refl
     go false d = refl

@@ -21,7 +21,7 @@ use Rattle.buslog.proofs.Logs.{parse-written}
 use Rattle.transfer.specs.Transfer.{selects}
 use Rattle.device.specs.Machine.{Machine, onCache, busIn, overBus}
 use Rattle.device.specs.Work.{Array}
-use Rattle.device.specs.Instructions.{answer, shifts, deselects}
+use Rattle.device.specs.Instructions.{answer, shifts, fed, replies, deselects}
 use Rattle.device.specs.Step.{step, run}
 use Rattle.device.specs.declared.State.{State}
 use Rattle.kept.specs.Kept.{SoundMachine}
@@ -34,7 +34,7 @@ use Rattle.buslog.proofs.RoundTrip.{over-none}
 use Rattle.model.specs.Runs.{End, shiftsIn, fitting, bytesOut, did, ranOf, runOf, seen, shown}
 use Rattle.model.proofs.Single.{run-ran}
 use Rattle.model.proofs.Rooms.{fitting-all, run-parts, out-parts, shifts-append}
-use Rattle.exchange.specs.Exchange.{shiftsOf, transferOf, unlogged, fed, replies, Exchanged}
+use Rattle.exchange.specs.Exchange.{shiftsOf, transferOf, unlogged, Exchanged}
 
 -- ---- the records
 
@@ -92,7 +92,7 @@ module _ (g : Geometry) (arr : Array) where
   run-fed [] m = refl
   run-fed (b ∷ di) m = run-fed di (shifts g b m)
 
-  out-replies : (di : List ℕ) (m : Machine) → bytesOut g arr m (shiftsOf di) ≡ replies g di m
+  pub out-replies : (di : List ℕ) (m : Machine) → bytesOut g arr m (shiftsOf di) ≡ replies g di m
   unfolding shiftsOf bytesOut step replies
   out-replies [] m = refl
   out-replies (b ∷ di) m = ap (λ (l : List ℕ). answer g (m .state) (m .store .cache) ∷ l) (out-replies di (shifts g b m))

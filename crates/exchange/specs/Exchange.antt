@@ -7,7 +7,7 @@ use Rattle.part.specs.declared.Geometry.{Geometry}
 use Rattle.buslog.specs.declared.Record.{Record}
 use Rattle.buslog.specs.declared.Record.the-variants.{Select, Shift, Deselect}
 use Rattle.device.specs.Machine.{Machine, onCache}
-use Rattle.device.specs.Instructions.{answer, shifts}
+use Rattle.device.specs.Instructions.{fed, replies}
 use Rattle.device.specs.declared.State.{State}
 use Rattle.model.specs.Runs.{End, seen}
 
@@ -33,16 +33,6 @@ unlogged e =
     (e .out)
 
 -- ---- byte after byte
-
--- the machine after bytes shifted in
-unfoldable pub fed : Geometry → List ℕ → Machine → Machine
-fed g [] m = m
-fed g (b ∷ bs) m = fed g bs (shifts g b m)
-
--- the bytes on DO meanwhile
-unfoldable pub replies : Geometry → List ℕ → Machine → List ℕ
-replies g [] m = []
-replies g (b ∷ bs) m = answer g (m .state) (m .store .cache) ∷ replies g bs (shifts g b m)
 
 -- bytes exchanged, from a state and a cache register on, whatever else the machine holds: what is then there, and the output with
 -- their answers at its front

@@ -1,15 +1,19 @@
 -- What is promised of bytes exchanged: they are the run of their records, and a transfer that is cut off for want of room can be completed.
-use mathlib.Core.Bool.{true}
+use mathlib.Core.Bool.{true, false, _||_}
 use mathlib.Core.List.{List, [], _∷_, _++_}
 use mathlib.Core.Path.{_≡_}
 use Prim.Native.Nat.{ℕ, _≤_, _<_}
-use lib.ListN.{length, take, drop}
+use lib.Dec.{eqb}
+use lib.ListN.{length, take, drop, replicate}
 use Rattle.part.specs.declared.Geometry.{Geometry}
 use Rattle.buslog.specs.Log.{bytesOf, written, Bytes}
 use Rattle.buslog.specs.declared.Record.the-variants.{Select, Deselect}
-use Rattle.device.specs.Machine.{Machine}
+use Rattle.registers.specs.Registers.{oip}
+use Rattle.transfer.specs.Transfer.{columnOf, ends}
+use Rattle.device.specs.Machine.{Machine, overBus}
 use Rattle.device.specs.Work.{Array, stepping}
 use Rattle.device.specs.Step.{step, run}
+use Rattle.cases.specs.RoundThePage.{answersFrom}
 use Rattle.refusals.specs.Refusals.{passed, checkedAs}
 use Rattle.refusals.specs.declared.Refusal.the-variants.{Done, NoRoom}
 use Rattle.model.specs.Runs.{bytesOut, did, runOf}
@@ -54,3 +58,16 @@ abbrev pub GoesOn : Type 0
 GoesOn =
     (g : Geometry) (arr : Array) (m : Machine) (di : List ℕ) → m .state .bus .transfer .selected ≡ true →
     run g arr m (transferOf di) ≡ run g arr m (shiftsOf di ++ (Deselect ∷ []))
+
+-- a whole cache read of however many bytes, by either code, in one call with room for it, on an idle chip that is not selected: it is done,
+-- nothing of the machine has changed but the transfer's end, and behind four bytes FFh its answers go round the page (document 02, item 6)
+abbrev pub ReadOut : Type 0
+ReadOut =
+    (g : Geometry) (arr : Array) (m : Machine) (room k high low idle : ℕ) (di : List ℕ) → passed (checkedAs g m) ≡ true
+    → m .state .bus .transfer .selected ≡ false → oip (m .state .regs .c0) ≡ false → (eqb k 0x03 || eqb k 0x0B) ≡ true → low < 256 →
+    let bytes = k ∷ high ∷ low ∷ idle ∷ di in
+    length bytes ≤ room →
+    let o = runOf g arr room (written (transferOf bytes)) m in
+    (o .refusal ≡ Done)
+    × (o .machine ≡ overBus ends m)
+    × (o .output ≡ replicate 4 0xFF ++ answersFrom g (m .store .cache) (columnOf high low .0) (length di))

@@ -30,11 +30,12 @@ fn reads(g: Geometry, s: State, di: &[u8], cache: &[u8], out: &mut [u8]) -> Stat
     requires { ⌜ (Past (s .bus)) × (is (s .bus .transfer) 0x03 ≡ true) × (length (now di) ≤ length (now out)) ⌝ }
     ensures { λ r. ⌜ Exchanged g s (now (cache .entry)) (now (di .entry)) (now (out .entry)) r (now (cache .entry)) (now (out .exit)) ⌝ }
 {
+    let page = g.page();
     let mut c = s.bus.transfer.column;
     let mut i = 0;
     while i < di.len() {
         out[i] = transfer::byte_at(cache, c);
-        c = transfer::next_column(c);
+        c = transfer::next_read(page, c);
         i += 1;
     }
     stream::at_column(c, s)

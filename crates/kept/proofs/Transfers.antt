@@ -1,15 +1,16 @@
 -- The transfer of a sound machine: its count and column are bounded, and a busy array let it in. Chip select and bytes shifted keep it so.
 use mathlib.Core.Bool.{Bool, true, false, not, _||_}
 use mathlib.Core.Path.{_≡_, refl}
-use Prim.Native.Nat.{ℕ, _≤_, _<_}
+use Prim.Native.Nat.{ℕ, _+_, _≤_, _<_}
 use native.Mathlib.Omega.{arith}
 use lib.Dec.{T, leb, eqb}
 use borrow.Author.Tests.{eqb-true, not-false}
+use Rattle.part.specs.Part.{page}
 use Rattle.part.specs.declared.Column.{Column}
 use Rattle.part.specs.declared.Geometry.{Geometry}
 use Rattle.part.proofs.Choice.{cond-keep}
 use Rattle.registers.specs.Registers.{oip}
-use Rattle.transfer.specs.Transfer.{noByte, byteOf, instructionOf, open?, heardAs, fresh, selects, columnBytes, columnAfter, instructed, later, heard, shiftedIn}
+use Rattle.transfer.specs.Transfer.{noByte, byteOf, instructionOf, open?, heardAs, is, fresh, selects, columnBytes, columnOn, columnAfter, instructed, later, heard, shiftedIn}
 use Rattle.transfer.specs.declared.Bus.{Bus}
 use Rattle.transfer.specs.declared.Transfer.{Transfer}
 use Rattle.transfer.specs.declared.Instruction.{Instruction}
@@ -59,26 +60,31 @@ instructed-on-bus c b t h = record { count-small = omega arith; column-small = h
 
 -- ---- a later byte
 
--- an address of two bytes is below 4,096, and the next column stops there
-column-small-after : (b : ℕ) (t : Transfer) → b < 256 → t .column .0 ≤ 4096 → columnAfter b t .0 ≤ 4096
-column-small-after b t l h =
-    cond-keep P (eqb (columnBytes t) 0) (λ e. h)
-    (λ e. cond-keep P (eqb (t .count) 2) (λ e. omega arith)
-    (λ e. cond-keep P (leb (columnBytes t) (t .count)) (λ e. omega arith) (λ e. h)))
-  where
-    P : Column → Type 0
-    P c = c .0 ≤ 4096
+abbrev Small : Column → Type 0
+Small c = c .0 ≤ 4096
+
+-- the next column stops at 4,096, and that of a read does too
+on-small : (g : Geometry) (t : Transfer) → Small (columnOn g t)
+on-small g t =
+    cond-keep Small (is t 0x03) (λ e. cond-keep Small (eqb (t .column .0 + 1) (page g)) (λ e. omega arith) (λ e. omega arith)) (λ e. omega arith)
+
+-- an address of two bytes is below it
+column-small-after : (g : Geometry) (b : ℕ) (t : Transfer) → b < 256 → Small (t .column) → Small (columnAfter g b t)
+column-small-after g b t l h =
+    cond-keep Small (eqb (columnBytes t) 0) (λ e. h)
+    (λ e. cond-keep Small (eqb (t .count) 2) (λ e. omega arith)
+    (λ e. cond-keep Small (leb (columnBytes t) (t .count)) (λ e. on-small g t) (λ e. h)))
 
 -- a later byte leaves the instruction as it is
-later-on-bus : (c b : ℕ) (t : Transfer) → b < 256 → 1 ≤ t .count → OnBus c t → OnBus c (later b t)
-later-on-bus c b t l k h =
-    record { count-small = omega arith; column-small = column-small-after b t l (h .column-small); let-in = λ o s n. h .let-in o s k }
+later-on-bus : (g : Geometry) (c b : ℕ) (t : Transfer) → b < 256 → 1 ≤ t .count → OnBus c t → OnBus c (later g b t)
+later-on-bus g c b t l k h =
+    record { count-small = omega arith; column-small = column-small-after g b t l (h .column-small); let-in = λ o s n. h .let-in o s k }
 
 pub shifted-on-bus : (g : Geometry) (c b : ℕ) (x : Bus) → b < 256 → OnBus c (x .transfer) → OnBus c (shiftedIn g (oip c) b x .transfer)
 unfolding shiftedIn
 shifted-on-bus g c b x l h =
     cond-keep (λ (x : Bus). OnBus c (x .transfer)) (heard x)
-    (λ e. cond-keep (OnBus c) (eqb (t .count) 0) (λ e. instructed-on-bus c b t h) (λ e. later-on-bus c b t l (some-T (t .count) .0 (rw e tt)) h))
+    (λ e. cond-keep (OnBus c) (eqb (t .count) 0) (λ e. instructed-on-bus c b t h) (λ e. later-on-bus g c b t l (some-T (t .count) .0 (rw e tt)) h))
     (λ e. h)
   where
     t : Transfer

@@ -15,7 +15,7 @@ abbrev pub from : ℕ → ℕ → ℕ → ℕ
 from k n x = if leb k n then x else 0xFF
 
 -- 0Fh: each byte after the address answers the register's present value; 9Fh: after one idle byte the two identity bytes; 03h and 0Bh:
--- after the column and one idle byte the cache from the column on, FFh past P
+-- after the column and one idle byte the cache byte at the next column, FFh past the page
 abbrev pub byteOut : Geometry → Registers → Bus → List ℕ → ℕ
 byteOut g r x cache =
     let t = x .transfer in

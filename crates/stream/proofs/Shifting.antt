@@ -7,10 +7,11 @@ use native.Mathlib.Omega.{arith}
 use lib.Dec.{T, eqb}
 use lib.ListN.{length, getD, set, length-set}
 use borrow.Author.Tests.{eqb-true}
+use Rattle.part.specs.Part.{page}
 use Rattle.part.specs.declared.Column.{Column}
 use Rattle.part.specs.declared.Geometry.{Geometry}
 use Rattle.part.proofs.Choice.{T-true, true-T, and-l, and-r}
-use Rattle.transfer.specs.Transfer.{byteOf, is, next, heard, shiftedIn, cacheByte, cached}
+use Rattle.transfer.specs.Transfer.{byteOf, is, next, nextRead, heard, shiftedIn, cacheByte, cached}
 use Rattle.transfer.specs.declared.Bus.{Bus}
 use Rattle.device.specs.Machine.{Machine, onCache}
 use Rattle.device.specs.Instructions.{answer, shifts}
@@ -40,41 +41,39 @@ module _ (x : Bus) (h : streams x ≡ true) where
 -- ---- one shift in a stream
 
 -- one byte on, from a column to the next, and what it puts out
-abbrev pub Moves : State → Column → Column → List ℕ → List ℕ → ℕ → ℕ → Type 0
-Moves s c c′ cache cache′ b x =
-    (g : Geometry)
-    → ((m : Machine) → shifts g b (onCache (atColumn c s) cache m) ≡ onCache (atColumn c′ s) cache′ m)
-    × (answer g (atColumn c s) cache ≡ x)
+abbrev pub Moves : Geometry → State → Column → Column → List ℕ → List ℕ → ℕ → ℕ → Type 0
+Moves g s c c′ cache cache′ b x =
+    ((m : Machine) → shifts g b (onCache (atColumn c s) cache m) ≡ onCache (atColumn c′ s) cache′ m) × (answer g (atColumn c s) cache ≡ x)
 
 -- one of two tests holds
 either : {P : Type 0} (a b : Bool) → (a || b) ≡ true → (a ≡ true → P) → (b ≡ true → P) → P
 either true b q f h = f refl
 either false b q f h = h q
 
-module _ (s : State) (p : Past (s .bus)) (c : Column) (cache : List ℕ) (b : ℕ) where
-  -- 03h reads the cache register
-  pub read-moves : is (s .bus .transfer) 0x03 ≡ true → Moves s c (next c) cache cache b (cacheByte cache c)
+module _ (g : Geometry) (s : State) (p : Past (s .bus)) (c : Column) (cache : List ℕ) (b : ℕ) where
+  -- 03h reads the cache register, round the page
+  pub read-moves : is (s .bus .transfer) 0x03 ≡ true → Moves g s c (nextRead (page g) c) cache cache b (cacheByte cache c)
   unfolding shifts shiftedIn cached answer
-  read-moves q g =
+  read-moves q =
       let e : byteOf (s .bus .transfer .instruction) ≡ 0x03 = eqb-true _ _ q in
       ((λ m. rw (p .listens, p .counted, e)), rw (p .listens, p .counted, e))
 
   -- 02h
-  load-2 : is (s .bus .transfer) 0x02 ≡ true → Moves s c (next c) cache (set cache (c .0) b) b 0xFF
+  load-2 : is (s .bus .transfer) 0x02 ≡ true → Moves g s c (next c) cache (set cache (c .0) b) b 0xFF
   unfolding shifts shiftedIn cached answer
-  load-2 q g =
+  load-2 q =
       let e : byteOf (s .bus .transfer .instruction) ≡ 0x02 = eqb-true _ _ q in
       ((λ m. rw (p .listens, p .counted, e)), rw (p .listens, p .counted, e))
 
   -- 84h
-  load-84 : is (s .bus .transfer) 0x84 ≡ true → Moves s c (next c) cache (set cache (c .0) b) b 0xFF
+  load-84 : is (s .bus .transfer) 0x84 ≡ true → Moves g s c (next c) cache (set cache (c .0) b) b 0xFF
   unfolding shifts shiftedIn cached answer
-  load-84 q g =
+  load-84 q =
       let e : byteOf (s .bus .transfer .instruction) ≡ 0x84 = eqb-true _ _ q in
       ((λ m. rw (p .listens, p .counted, e)), rw (p .listens, p .counted, e))
 
   -- 02h and 84h store at the column
-  pub load-moves : loading (s .bus .transfer) ≡ true → Moves s c (next c) cache (set cache (c .0) b) b 0xFF
+  pub load-moves : loading (s .bus .transfer) ≡ true → Moves g s c (next c) cache (set cache (c .0) b) b 0xFF
   load-moves q = either (is (s .bus .transfer) 0x02) (is (s .bus .transfer) 0x84) q load-2 load-84
 
 -- ---- the loops
@@ -93,36 +92,40 @@ none-left log at written out n i r h f = omega (arith, r .inside, r .before, r .
 pub no-shift : (log : List ℕ) (at written : ℕ) (out : List ℕ) (i x : ℕ) → x ≡ getD log (at + 2 * i) 0 → (x ≡ 2 → ⊥) → Follows log at written out i → ⊥
 no-shift log at written out i x e h f = h (e ∙ f .0 .kind)
 
--- so many shifts done, the column and the buffers so far
-pub record Streaming (s : State) (log : List ℕ) (at written n : ℕ) (cache₀ out₀ cache out : List ℕ) (c : Column) (i : ℕ) : Type 0 where
+-- every part
+abbrev pub Any : Geometry → Type 0
+Any g = T true
+
+-- so many shifts done, on each part that is meant, the column and the buffers so far
+pub record Streaming (On : Geometry → Type 0) (s : State) (log : List ℕ) (at written n : ℕ) (cache₀ out₀ cache out : List ℕ) (c : Column) (i : ℕ) : Type 0 where
   pub roomy : Roomy log at written out₀ n
   pub below : i ≤ n
   pub cache-long : length cache ≡ length cache₀
   pub out-keeps : length out ≡ length out₀
-  pub done : (g : Geometry) (m : Machine) → Shifted g log at written (onCache s cache₀ m) out₀ i (onCache (atColumn c s) cache m) out
+  pub done : (g : Geometry) → On g → (m : Machine) → Shifted g log at written (onCache s cache₀ m) out₀ i (onCache (atColumn c s) cache m) out
 
 -- before the first shift
-pub before-first : (s : State) (log : List ℕ) (at written n : ℕ) (cache out : List ℕ) → Roomy log at written out n
-    → Streaming s log at written n cache out cache out (s .bus .transfer .column) 0
-before-first s log at written n cache out r = record { roomy = r; below = omega arith; cache-long = refl; out-keeps = refl; done = λ g m. none }
+pub before-first : (On : Geometry → Type 0) (s : State) (log : List ℕ) (at written n : ℕ) (cache out : List ℕ) → Roomy log at written out n
+    → Streaming On s log at written n cache out cache out (s .bus .transfer .column) 0
+before-first On s log at written n cache out r = record { roomy = r; below = omega arith; cache-long = refl; out-keeps = refl; done = λ g o m. none }
 
-module _ {s : State} {log : List ℕ} {at written n : ℕ} {cache₀ out₀ cache out : List ℕ} {c : Column} {i : ℕ} where
+module _ {On : Geometry → Type 0} {s : State} {log : List ℕ} {at written n : ℕ} {cache₀ out₀ cache out : List ℕ} {c : Column} {i : ℕ} where
   -- one shift more
-  pub moved : {cache′ : List ℕ} {c′ : Column} {x : ℕ} → Streaming s log at written n cache₀ out₀ cache out c i → i < n → getD log (at + 2 * i) 0 ≡ 2
-      → length cache′ ≡ length cache → Moves s c c′ cache cache′ (byteIn log (at + 2 * i)) x
-      → Streaming s log at written n cache₀ out₀ cache′ (set out (written + i) x) c′ (i + 1)
+  pub moved : {cache′ : List ℕ} {c′ : Column} {x : ℕ} → Streaming On s log at written n cache₀ out₀ cache out c i → i < n → getD log (at + 2 * i) 0 ≡ 2
+      → length cache′ ≡ length cache → ((g : Geometry) → On g → Moves g s c c′ cache cache′ (byteIn log (at + 2 * i)) x)
+      → Streaming On s log at written n cache₀ out₀ cache′ (set out (written + i) x) c′ (i + 1)
   moved {cache′} {c′} {x} h l k e v =
       record {
         roomy = h .roomy;
         below = omega arith;
         cache-long = e ∙ h .cache-long;
         out-keeps = simp length-set (h .out-keeps);
-        done = λ g m.
+        done = λ g o m.
             let a : ShiftAt log (at + 2 * i) = record { inside = omega (arith, h .roomy .inside, h .roomy .most); kind = k } in
             let z : written + i < length out = omega (arith, h .roomy .before, h .roomy .most, h .out-keeps) in
-            subst (λ (y : ℕ). Shifted g log at written (onCache s cache₀ m) out₀ (i + 1) (onCache (atColumn c′ s) cache′ m) (set out (written + i) y)) (v g .1)
-            (subst (λ (y : Machine). Shifted g log at written (onCache s cache₀ m) out₀ (i + 1) y (set out (written + i) (answer g (atColumn c s) cache))) (v g .0 m)
-            (more (h .done g m) a z));
+            subst (λ (y : ℕ). Shifted g log at written (onCache s cache₀ m) out₀ (i + 1) (onCache (atColumn c′ s) cache′ m) (set out (written + i) y)) (v g o .1)
+            (subst (λ (y : Machine). Shifted g log at written (onCache s cache₀ m) out₀ (i + 1) y (set out (written + i) (answer g (atColumn c s) cache))) (v g o .0 m)
+            (more (h .done g o m) a z));
       }
 
 -- ---- all of them

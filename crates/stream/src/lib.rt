@@ -79,6 +79,7 @@ fn reads(
     ensures { λ r. ⌜ (((m : Machine) → Shifted g (now (log .entry)) at written (onCache s (now (cache .entry)) m) (now (out .entry)) (r .count) (onCache (r .state) (now (cache .entry)) m) (now (out .exit)))) × (Follows (now (log .entry)) at written (now (out .entry)) (r .count) → ⊥) ⌝ }
 {
     let n = most(log.len() - at, out.len() - written);
+    let page = g.page();
     let mut c = s.bus.transfer.column;
     let mut i = 0;
     while i < n {
@@ -89,7 +90,7 @@ fn reads(
             };
         }
         out[written + i] = transfer::byte_at(cache, c);
-        c = transfer::next_column(c);
+        c = transfer::next_read(page, c);
         i += 1;
     }
     Stream {

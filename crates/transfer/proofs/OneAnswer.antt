@@ -12,6 +12,8 @@ use Rattle.transfer.proofs.let_in.Reads as let-in-reads
 use Rattle.transfer.proofs.let_in.Kinds as let-in-kinds
 use Rattle.transfer.proofs.next_column.Reads as next-column-reads
 use Rattle.transfer.proofs.next_column.Kinds as next-column-kinds
+use Rattle.transfer.proofs.next_read.Reads as next-read-reads
+use Rattle.transfer.proofs.next_read.Kinds as next-read-kinds
 use Rattle.transfer.proofs.byte_at.Reads as byte-at-reads
 use Rattle.transfer.proofs.byte_at.Kinds as byte-at-kinds
 use Rattle.transfer.proofs.store_at.Reads as store-at-reads
@@ -48,6 +50,9 @@ let-in-one κs a x y s t p q = p ∙ sym q
 
 pub next-column-one : OneAnswer 0 next-column-kinds.ps next-column-kinds.r next-column-reads.Post
 next-column-one κs a x y s t p q = p ∙ sym q
+
+pub next-read-one : OneAnswer 0 next-read-kinds.ps next-read-kinds.r next-read-reads.Post
+next-read-one κs a x y s t p q = p ∙ sym q
 
 pub heard-one : OneAnswer 0 heard-kinds.ps heard-kinds.r heard-reads.Post
 heard-one κs a x y s t p q = p ∙ sym q

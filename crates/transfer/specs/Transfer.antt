@@ -5,6 +5,7 @@ use Prim.Native.Nat.{ℕ, _+_, _*_, _%_, min}
 use lib.Dec.{leb, eqb}
 use lib.ListN.{length, getD, set, replicate}
 use Rattle.part.specs.Choice.{if_then_else_}
+use Rattle.part.specs.Part.{page}
 use Rattle.part.specs.declared.Geometry.{Geometry}
 use Rattle.part.specs.declared.Row.{Row}
 use Rattle.part.specs.declared.Column.{Column}
@@ -115,6 +116,10 @@ more n = min 5 (n + 1)
 abbrev pub next : Column → Column
 next c = record { 0 = min 4096 (c .0 + 1) }
 
+-- the next column of a read, on a page of p bytes: behind the last one it is 0; one past the page stays past it (document 02, item 6)
+abbrev pub nextRead : ℕ → Column → Column
+nextRead p c = if eqb (c .0 + 1) p then record { 0 = 0 } else next c
+
 -- a column address: two bytes, high first, top four bits ignored
 abbrev pub columnOf : ℕ → ℕ → Column
 columnOf high low = record { 0 = high % 16 * 256 + low }
@@ -127,14 +132,18 @@ rowOf t = record { 0 = t .second * 256 + t .third }
 abbrev pub columnBytes : Transfer → ℕ
 columnBytes t = if is t 0x03 then 4 else if is t 0x02 || is t 0x84 then 3 else 0
 
+-- the next column after a byte that moves it on: 03h and 0Bh read round the page, 02h and 84h load on past its end
+abbrev pub columnOn : Geometry → Transfer → Column
+columnOn g t = if is t 0x03 then nextRead (page g) (t .column) else next (t .column)
+
 -- the next column after byte b
-abbrev pub columnAfter : ℕ → Transfer → Column
-columnAfter b t =
+abbrev pub columnAfter : Geometry → ℕ → Transfer → Column
+columnAfter g b t =
     let n = t .count in
     let k = columnBytes t in
     if eqb k 0 then t .column
     else if eqb n 2 then columnOf (t .first) b
-    else if leb k n then next (t .column)
+    else if leb k n then columnOn g t
     else t .column
 
 -- the first byte is the instruction
@@ -151,8 +160,8 @@ instructed busy b t =
     }
 
 -- a later byte is kept as it came, and counted
-abbrev pub later : ℕ → Transfer → Transfer
-later b t =
+abbrev pub later : Geometry → ℕ → Transfer → Transfer
+later g b t =
     let n = t .count in
     record {
       selected = t .selected;
@@ -161,7 +170,7 @@ later b t =
       first = if eqb n 1 then b else t .first;
       second = if eqb n 2 then b else t .second;
       third = if eqb n 3 then b else t .third;
-      column = columnAfter b t;
+      column = columnAfter g b t;
     }
 
 -- a byte shifted is heard while the chip is selected
@@ -171,7 +180,7 @@ heard x = x .transfer .selected
 unfoldable pub shiftedIn : Geometry → Bool → ℕ → Bus → Bus
 shiftedIn g busy b x =
     let t = x .transfer in
-    if heard x then withTransfer (if eqb (t .count) 0 then instructed busy b t else later b t) x else x
+    if heard x then withTransfer (if eqb (t .count) 0 then instructed busy b t else later g b t) x else x
 
 -- ---- what a byte shifted does to the cache register
 
@@ -179,7 +188,7 @@ shiftedIn g busy b x =
 abbrev pub bodyHeard : Bus → Bool
 bodyHeard x = heard x && not (eqb (x .transfer .count) 0)
 
--- the byte at a column of the cache register: FFh past P
+-- the byte at a column of the cache register: FFh at a column past the page
 abbrev pub cacheByte : List ℕ → Column → ℕ
 cacheByte l c = getD l (c .0) 0xFF
 

@@ -1,7 +1,7 @@
 // A transfer on the bus: chip select, the bytes shifted in, and what they do to the cache register. Document 01, "Instructions".
 ghost use mathlib.Core.Path.{_≡_};
 ghost use lib.ListN.{set};
-ghost use Rattle.transfer.specs.Transfer.{byteOf, instructionOf, open?, heardAs, is, formBytes, full, withTransfer, withPins, fresh, selects, ends, more, next, columnOf, rowOf, columnBytes, columnAfter, instructed, later, heard, shiftedIn, bodyHeard, cacheByte, stored, cached};
+ghost use Rattle.transfer.specs.Transfer.{byteOf, instructionOf, open?, heardAs, is, formBytes, full, withTransfer, withPins, fresh, selects, ends, more, next, nextRead, columnOf, rowOf, columnBytes, columnOn, columnAfter, instructed, later, heard, shiftedIn, bodyHeard, cacheByte, stored, cached};
 use part::Column;
 use part::Geometry;
 use part::Row;
@@ -143,6 +143,16 @@ pub fn next_column(c: Column) -> Column
     }
 }
 
+// The next column of a read, on a page of so many bytes: the first follows the last, and one past the page stays past it.
+pub fn next_read(page: usize, c: Column) -> Column
+    ensures { λ r. ⌜ r ≡ nextRead page c ⌝ }
+{
+    if part::wide_short(c.0) + 1 == page {
+        return Column(0);
+    }
+    next_column(c)
+}
+
 // The cache byte at a column, FFh past the page's end.
 pub fn byte_at(cache: &[u8], c: Column) -> u8
     ensures { λ r. ⌜ r ≡ cacheByte (now (cache .entry)) c ⌝ }
@@ -232,9 +242,20 @@ impl Transfer {
         0
     }
 
+    // The next column after a byte that moves it on: a read goes round the page, a load on past its end.
+    fn column_on(self, g: Geometry) -> Column
+        ensures { λ r. ⌜ r ≡ columnOn g self ⌝ }
+    {
+        let c = self.column;
+        if self.is(0x03) {
+            return next_read(g.page(), c);
+        }
+        next_column(c)
+    }
+
     // The next column after a byte.
-    fn column_after(self, b: u8) -> Column
-        ensures { λ r. ⌜ r ≡ columnAfter b self ⌝ }
+    fn column_after(self, g: Geometry, b: u8) -> Column
+        ensures { λ r. ⌜ r ≡ columnAfter g b self ⌝ }
     {
         let k = self.column_bytes();
         let c = self.column;
@@ -245,7 +266,7 @@ impl Transfer {
             return column_of(self.first, b);
         }
         if k <= self.count {
-            return next_column(c);
+            return self.column_on(g);
         }
         c
     }
@@ -273,10 +294,10 @@ impl Transfer {
     }
 
     // A later byte is kept as it came, and counted.
-    fn later(self, b: u8) -> Transfer
-        ensures { λ r. ⌜ r ≡ later b self ⌝ }
+    fn later(self, g: Geometry, b: u8) -> Transfer
+        ensures { λ r. ⌜ r ≡ later g b self ⌝ }
     {
-        let c = self.column_after(b);
+        let c = self.column_after(g, b);
         let n = self.count;
         match n {
             1 => Transfer {
@@ -359,7 +380,7 @@ impl Bus {
             };
         }
         Bus {
-            transfer: t.later(b),
+            transfer: t.later(g, b),
             ..self
         }
     }

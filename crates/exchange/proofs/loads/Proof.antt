@@ -43,7 +43,7 @@ loop-again : tie.Need-loop-again Inv-loop μ-loop
 loop-again c =
     rw (c .next-column .ensures, c .before .before .before .store-at .ensures)
     (λ g. along-moves (c .before .before .before .before .before .before .before .loop .inv g) refl (c .before .before .before .before .before .before .loop-test .taken) (simp length-set)
-    (load-moves (c .before .before .before .before .before .before .before .before .before .before .before .before .args .s) (c .before .before .before .before .before .before .before .before .before .before .before .before .pre .0) (c .before .before .before .before .before .before .before .loop .c) (c .before .before .before .before .before .before .before .loop .cache) _ (c .before .before .before .before .before .before .before .before .before .before .before .before .pre .1)))
+    (load-moves g (c .before .before .before .before .before .before .before .before .before .before .before .before .args .s) (c .before .before .before .before .before .before .before .before .before .before .before .before .pre .0) (c .before .before .before .before .before .before .before .loop .c) (c .before .before .before .before .before .before .before .loop .cache) _ (c .before .before .before .before .before .before .before .before .before .before .before .before .pre .1)))
 
 at-column-requires : tie.Need-at-column-requires Inv-loop μ-loop
 at-column-requires c κs = search needs

@@ -1,18 +1,24 @@
 -- `reads`: after i shifts they are done, the column moved on. The measure is the shifts left.
-use Prim.Native.Nat.{_-_}
-use mathlib.Core.Path.{refl}
+use Prim.Native.Nat.{ℕ, _-_}
+use mathlib.Core.Path.{_≡_, refl, sym}
 use denote.Ref.{now}
 use native.Mathlib.Omega.{arith}
 use borrow.Author.Needs.{needs}
+use Rattle.part.specs.Part.{page}
+use Rattle.part.specs.declared.Geometry.{Geometry}
 use Rattle.stream.proofs.Shifting.{Streaming, before-first, moved, read-moves, none-left, no-shift}
 use Rattle.stream.proofs.reads.Statement.{statement}
 use Rattle.stream.proofs.reads.Tie as tie
 
+-- on each part whose page is as long as the loop takes it to be
+abbrev On : ℕ → Geometry → Type 0
+On p g = page g ≡ p
+
 abbrev Inv-loop : tie.InvT-loop
-Inv-loop s log at cache out₀ written n c₀ i₀ out c i = Streaming s log at written n cache out₀ cache out c i
+Inv-loop s log at cache out₀ written n p c₀ i₀ out c i = Streaming (On p) s log at written n cache out₀ cache out c i
 
 abbrev μ-loop : tie.MeasureT-loop
-μ-loop s log at cache out₀ written n c₀ i₀ out c i = n - i
+μ-loop s log at cache out₀ written n p c₀ i₀ out c i = n - i
 
 sub-most : tie.Need-sub-most Inv-loop μ-loop
 sub-most c = search needs
@@ -23,8 +29,11 @@ sub-most-2 c = search needs
 most-requires : tie.Need-most-requires Inv-loop μ-loop
 most-requires c κs = search needs
 
+page-requires : tie.Need-page-requires Inv-loop μ-loop
+page-requires c κs = search needs
+
 loop-holds : tie.Need-loop-holds Inv-loop μ-loop
-loop-holds c = before-first (c .before .before .before .before .before .args .s) (now (c .before .before .before .before .before .args .log)) (c .before .before .before .before .before .args .at) (c .before .before .before .before .before .args .written) (c .before .most .result) (now (c .before .before .before .before .before .args .cache)) (now (c .before .before .before .before .before .args .out)) (record { inside = c .before .before .before .before .before .pre .2; before = c .before .before .before .before .before .pre .3; most = c .before .most .ensures })
+loop-holds c = before-first (On (c .before .page .result)) (c .before .before .before .before .before .before .args .s) (now (c .before .before .before .before .before .before .args .log)) (c .before .before .before .before .before .before .args .at) (c .before .before .before .before .before .before .args .written) (c .before .before .most .result) (now (c .before .before .before .before .before .before .args .cache)) (now (c .before .before .before .before .before .before .args .out)) (record { inside = c .before .before .before .before .before .before .pre .2; before = c .before .before .before .before .before .before .pre .3; most = c .before .before .most .ensures })
 
 mul-if1 : tie.Need-mul-if1 Inv-loop μ-loop
 mul-if1 c = omega (arith, c .before .loop .inv .roomy .inside, c .before .loop .inv .roomy .before, c .before .loop .inv .roomy .most, c .before .loop .inv .out-keeps)
@@ -42,7 +51,7 @@ same-length : tie.Need-same-length Inv-loop μ-loop
 same-length c = c .before .before .before .before .loop .inv .out-keeps
 
 returns : tie.Need-returns Inv-loop μ-loop
-returns c = ((λ m. rw (c .at-column .ensures) (c .before .before .before .before .loop .inv .done (c .before .before .before .before .before .before .before .before .before .before .args .g) m)), no-shift (now (c .before .before .before .before .before .before .before .before .before .before .args .log)) (c .before .before .before .before .before .before .before .before .before .before .args .at) (c .before .before .before .before .before .before .before .before .before .before .args .written) (now (c .before .before .before .before .before .before .before .before .before .before .args .out)) (c .before .before .before .before .loop .i) _ refl (λ e. omega (arith, e, c .before .if1 .taken)))
+returns c = ((λ m. rw (c .at-column .ensures) (c .before .before .before .before .loop .inv .done (c .before .before .before .before .before .before .before .before .before .before .before .args .g) (sym (c .before .before .before .before .before .before .page .ensures)) m)), no-shift (now (c .before .before .before .before .before .before .before .before .before .before .before .args .log)) (c .before .before .before .before .before .before .before .before .before .before .before .args .at) (c .before .before .before .before .before .before .before .before .before .before .before .args .written) (now (c .before .before .before .before .before .before .before .before .before .before .before .args .out)) (c .before .before .before .before .loop .i) _ refl (λ e. omega (arith, e, c .before .if1 .taken)))
 
 byte-at-requires : tie.Need-byte-at-requires Inv-loop μ-loop
 byte-at-requires c κs = search needs
@@ -53,8 +62,8 @@ add-out c = omega (arith, c .before .before .before .before .loop .inv .roomy .i
 slice-write-out : tie.Need-slice-write-out Inv-loop μ-loop
 slice-write-out c = omega (arith, c .before .before .before .before .loop .inv .roomy .inside, c .before .before .before .before .loop .inv .roomy .before, c .before .before .before .before .loop .inv .roomy .most, c .before .before .before .before .loop .inv .out-keeps)
 
-next-column-requires : tie.Need-next-column-requires Inv-loop μ-loop
-next-column-requires c κs = search needs
+next-read-requires : tie.Need-next-read-requires Inv-loop μ-loop
+next-read-requires c κs = search needs
 
 add-i : tie.Need-add-i Inv-loop μ-loop
 add-i c = search needs
@@ -64,9 +73,9 @@ loop-less c = search needs
 
 loop-again : tie.Need-loop-again Inv-loop μ-loop
 loop-again c =
-    rw (c .next-column .ensures, c .before .byte-at .ensures)
+    rw (c .next-read .ensures, c .before .byte-at .ensures)
     (moved (c .before .before .before .before .before .loop .inv) (c .before .before .before .before .loop-test .taken) (omega (arith, c .before .before .if1 .left)) refl
-    (read-moves (c .before .before .before .before .before .before .before .before .before .before .before .args .s) (c .before .before .before .before .before .before .before .before .before .before .before .pre .0) (c .before .before .before .before .before .loop .c) (now (c .before .before .before .before .before .before .before .before .before .before .before .args .cache)) _ (c .before .before .before .before .before .before .before .before .before .before .before .pre .1)))
+    (λ g o. rw (← o) (read-moves g (c .before .before .before .before .before .before .before .before .before .before .before .before .args .s) (c .before .before .before .before .before .before .before .before .before .before .before .before .pre .0) (c .before .before .before .before .before .loop .c) (now (c .before .before .before .before .before .before .before .before .before .before .before .before .args .cache)) _ (c .before .before .before .before .before .before .before .before .before .before .before .before .pre .1))))
 
 at-column-requires-2 : tie.Need-at-column-requires-2 Inv-loop μ-loop
 at-column-requires-2 c κs = search needs
@@ -75,7 +84,7 @@ same-length-2 : tie.Need-same-length-2 Inv-loop μ-loop
 same-length-2 c = c .before .before .loop .inv .out-keeps
 
 returns-2 : tie.Need-returns-2 Inv-loop μ-loop
-returns-2 c = ((λ m. rw (c .at-column2 .ensures) (c .before .before .loop .inv .done (c .before .before .before .before .before .before .before .before .args .g) m)), none-left _ _ _ _ _ _ (c .before .before .loop .inv .roomy) (omega (arith, c .before .loop-test .left)))
+returns-2 c = ((λ m. rw (c .at-column2 .ensures) (c .before .before .loop .inv .done (c .before .before .before .before .before .before .before .before .before .args .g) (sym (c .before .before .before .before .page .ensures)) m)), none-left _ _ _ _ _ _ (c .before .before .loop .inv .roomy) (omega (arith, c .before .loop-test .left)))
 
 pub reads-spec : {M : Type 1} → statement M
 reads-spec =
@@ -86,6 +95,7 @@ reads-spec =
     sub-most
     sub-most-2
     most-requires
+    page-requires
     loop-holds
     mul-if1
     add-if1
@@ -96,7 +106,7 @@ reads-spec =
     byte-at-requires
     add-out
     slice-write-out
-    next-column-requires
+    next-read-requires
     add-i
     loop-less
     loop-again

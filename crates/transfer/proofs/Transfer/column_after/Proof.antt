@@ -15,11 +15,11 @@ column-of-requires c κs = search needs
 returns-2 : tie.Need-returns-2
 returns-2 c = rw (c .column-of .ensures, ← (c .before .before .before .before .before .column-bytes .ensures), ne-eqb _ _ (c .before .before .before .if1 .left), c .before .if2 .taken)
 
-next-column-requires : tie.Need-next-column-requires
-next-column-requires c κs = search needs
+column-on-requires : tie.Need-column-on-requires
+column-on-requires c κs = search needs
 
 returns-3 : tie.Need-returns-3
-returns-3 c = rw (c .next-column .ensures, ← (c .before .before .before .before .before .before .before .column-bytes .ensures), ne-eqb _ _ (c .before .before .before .before .before .if1 .left), ne-eqb _ _ (c .before .before .before .if2 .left), le-leb _ _ (c .before .if3 .taken))
+returns-3 c = rw (c .column-on .ensures, ← (c .before .before .before .before .before .before .before .column-bytes .ensures), ne-eqb _ _ (c .before .before .before .before .before .if1 .left), ne-eqb _ _ (c .before .before .before .if2 .left), le-leb _ _ (c .before .if3 .taken))
 
 returns-4 : tie.Need-returns-4
 returns-4 c = rw (← (c .before .before .before .before .before .before .column-bytes .ensures), ne-eqb _ _ (c .before .before .before .before .if1 .left), ne-eqb _ _ (c .before .before .if2 .left), lt-leb _ _ (c .if3 .left))
@@ -32,6 +32,6 @@ column-after-spec =
     returns
     column-of-requires
     returns-2
-    next-column-requires
+    column-on-requires
     returns-3
     returns-4)
