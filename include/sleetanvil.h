@@ -72,7 +72,7 @@ enum {
     SLEET_CODE_SET_FEATURE = 0x1F,
     SLEET_CODE_READ_ID = 0x9F,
     SLEET_CODE_PAGE_READ = 0x13,
-    SLEET_CODE_READ_CACHE = 0x03, /* 0Bh does the same */
+    SLEET_CODE_READ_CACHE = 0x03, /* 0Bh does the same; behind column P - 1 both go on at column 0 */
     SLEET_CODE_READ_CACHE_FAST = 0x0B,
     SLEET_CODE_LOAD = 0x02,
     SLEET_CODE_LOAD_RANDOM = 0x84,
@@ -157,6 +157,10 @@ enum { SLEET_IDLE = 0, SLEET_READ = 1, SLEET_PROGRAM = 2, SLEET_ERASE = 3, SLEET
  *    the `row` of a program or an erase is below K*N, that of SLEET_RESET is 0;
  *  - while OIP is 1 and the chip is selected with a `count` of 1 or more, the instruction is 0Fh, 9Fh, FFh or SLEET_IGNORED.
  * Any other is refused with 5 and given back as it came.
+ *
+ * `column` is the column address of a transfer, and moves on by one with each byte of data or answer. A cache read (03h, 0Bh) goes round: n
+ * answers from a column c below P are the cache bytes at (c + i) mod P, i from 0 to n - 1. A read at a column of P or more answers FFh
+ * throughout, and data of a load (02h, 84h) is dropped there; their column runs on up to 4096 and stays.
  */
 typedef struct sleet_state {
     uint8_t a0;           /* register A0h: protection */
@@ -171,7 +175,7 @@ typedef struct sleet_state {
     uint8_t third;
     uint8_t job;          /* the operation in progress */
     uint16_t instruction; /* 06h 04h 0Fh 1Fh 9Fh 13h 03h (for 0Bh too) 02h 84h 10h D8h FFh, or SLEET_IGNORED */
-    uint16_t column;      /* the next column */
+    uint16_t column;      /* the next column; in a cache read 0 comes behind P - 1 */
     uint16_t row;         /* the row of the operation; 0 while idle and during a reset */
     size_t units;         /* its units done; 0 while idle */
 } sleet_state;

@@ -98,7 +98,8 @@ impl Device {
         &self.cells
     }
 
-    /// The cache register.
+    /// The cache register. A cache read (03h, 0Bh) goes round in it: behind its last byte comes its
+    /// first again. From a column outside it a read gives FFh throughout.
     pub fn cache(&self) -> &[u8] {
         &self.cache
     }

@@ -36,7 +36,8 @@ pub struct State {
     pub job: u8,
     /// The code of the instruction under way, or [`State::IGNORED`].
     pub instruction: u16,
-    /// The next column.
+    /// The next column. In a cache read (03h, 0Bh) 0 comes behind the page's last column. A load,
+    /// and a read outside the page, whose answers are FFh, runs on up to 4,096 and stays there.
     pub column: u16,
     /// The row of the operation; 0 while idle and during a reset.
     pub row: u16,

@@ -488,7 +488,8 @@ fn a_trace_of_much() {
          status stays 01h (busy)",
         "work of 8 units: reset ends; status 01h -> 00h (idle)",
         "work of 1 unit: the array is idle, nothing happens",
-        "0Bh Fast Read From Cache column 19 -> FFh FFh .. 3 bytes in all (2 past the page)",
+        "0Bh Fast Read From Cache column 19 -> FFh A5h .. 3 bytes in all \
+         (2 past the page, from column 0 again)",
         "03h Read From Cache column 4095 (outside the page) -> FFh (1 past the page)",
         "02h Program Load column 18 <- 01h 02h .. 3 bytes in all (1 past the page, dropped)",
         "13h Page Read row 32 (outside the array): read of row 32 begins, 20 units, all FFh; \
@@ -596,6 +597,132 @@ fn a_trace_of_resets() {
     assert_eq!(texts(&trace), steps.map(|(_, line)| line));
 }
 
+/// The cache register of the bench part, loaded with 01h to 14h once the power-up read is done.
+fn loaded() -> (Vec<u8>, Log) {
+    let page: Vec<u8> = (0x01..=0x14).collect();
+    let mut log = Log::new();
+    log.push(Record::Work(20));
+    log.transfer(&[&[0x02, 0x00, 0x00], &page[..]].concat());
+    (page, log)
+}
+
+/// A cache read goes on at column 0 behind the page's end, as often as it comes there; one from
+/// outside the page never does.
+#[test]
+fn a_trace_of_reads_past_the_page() {
+    let folder = Folder::new("a_trace_of_reads_past_the_page");
+    let out = folder.file("out");
+    let (page, mut log) = loaded();
+    let none = String::new;
+    let past = |bytes| format!(" ({bytes} past the page)");
+    let again = |bytes| format!(" ({bytes} past the page, from column 0 again)");
+    #[rustfmt::skip]
+    let steps = [
+        (0x03, 18, 2, "column 18 -> 13h 14h", none()),
+        (0x03, 18, 3, "column 18 -> 13h 14h 01h", again(1)),
+        (0x0B, 19, 0, "column 19", none()),
+        (0x0B, 19, 1, "column 19 -> 14h", none()),
+        (0x0B, 19, 2, "column 19 -> 14h 01h", again(1)),
+        (0x03, 0, 20, "column 0 -> 01h 02h 03h .. 20 bytes in all", none()),
+        (0x03, 0, 21, "column 0 -> 01h 02h 03h .. 21 bytes in all", again(1)),
+        (0x0B, 1, 39, "column 1 -> 02h 03h 04h .. 39 bytes in all", again(20)),
+        (0x0B, 1, 40, "column 1 -> 02h 03h 04h .. 40 bytes in all", again(21)),
+        (0x03, 18, 47, "column 18 -> 13h 14h 01h .. 47 bytes in all", again(45)),
+        (0x03, 16, 4, "column 16 -> 11h 12h 13h .. 4 bytes in all", none()),
+        (0x03, 16, 6, "column 16 -> 11h 12h 13h .. 6 bytes in all", again(2)),
+        (0x03, 0xF013, 2, "column 19 -> 14h 01h", again(1)),
+        (0x03, 20, 0, "column 20 (outside the page)", none()),
+        (0x03, 20, 1, "column 20 (outside the page) -> FFh", past(1)),
+        (0x0B, 20, 43, "column 20 (outside the page) -> FFh FFh FFh .. 43 bytes in all", past(43)),
+        (0x03, 21, 2, "column 21 (outside the page) -> FFh FFh", past(2)),
+        (0x0B, 4095, 1, "column 4095 (outside the page) -> FFh", past(1)),
+        (0x03, 0xFFFF, 3, "column 4095 (outside the page) -> FFh FFh FFh", past(3)),
+    ];
+    let mut answers = vec![0xFF; 23];
+    for &(code, address, count, ..) in &steps {
+        let [high, low] = u16::to_be_bytes(address);
+        log.transfer(&[&[code, high, low, 0x00], &vec![0x00; count][..]].concat());
+        answers.extend([0xFF; 4]);
+        match usize::from(address & 0x0FFF) {
+            column @ 0..=19 => answers.extend(page.iter().cycle().skip(column).take(count)),
+            _ => answers.extend(vec![0xFF; count]),
+        }
+    }
+    let args = ["replay", "--trace", "--bytes", "3", "--out", &out, "-"];
+    let trace = succeeds(&with_input(&args, log.as_bytes()));
+    let lines = steps.map(|(code, _, _, words, past)| match code {
+        0x03 => format!("03h Read From Cache {words}{past}"),
+        _ => format!("0Bh Fast Read From Cache {words}{past}"),
+    });
+    assert_eq!(texts(&trace)[2..], lines);
+    assert_eq!(fs::read(&out).expect("the bytes on DO"), answers);
+}
+
+/// Data of a load is dropped past the page, and goes on at no column; a read behind it does. What
+/// is ignored goes nowhere.
+#[test]
+fn a_trace_of_loads_past_the_page() {
+    let (_, mut log) = loaded();
+    let steps = [
+        (
+            &[0x84, 0x00, 0x13, 0xA1][..],
+            "84h Program Load Random Data column 19 <- A1h",
+        ),
+        (
+            &[0x84, 0x00, 0x12, 0xB1, 0xB2, 0xB3, 0xB4],
+            "84h Program Load Random Data column 18 <- B1h B2h B3h B4h \
+             (2 past the page, dropped)",
+        ),
+        (
+            &[0x84, 0x00, 0x14, 0xC1],
+            "84h Program Load Random Data column 20 (outside the page) <- C1h \
+             (1 past the page, dropped)",
+        ),
+        (
+            &[0x84, 0x0F, 0xFF, 0xC1, 0xC2, 0xC3],
+            "84h Program Load Random Data column 4095 (outside the page) <- C1h C2h C3h \
+             (3 past the page, dropped)",
+        ),
+        (
+            &[&[0x84, 0x00, 0x13], &[0xD1; 24][..]].concat(),
+            "84h Program Load Random Data column 19 <- D1h D1h D1h D1h D1h .. 24 bytes in all \
+             (23 past the page, dropped)",
+        ),
+        (
+            &[0x03, 0x00, 0x11, 0x00, 0x00, 0x00, 0x00, 0x00, 0x00],
+            "03h Read From Cache column 17 -> 12h B1h D1h 01h 02h \
+             (2 past the page, from column 0 again)",
+        ),
+        (
+            &[0x02, 0x00, 0x13, 0xE1, 0xE2],
+            "02h Program Load column 19 <- E1h E2h (1 past the page, dropped)",
+        ),
+        (
+            &[0x0B, 0x00, 0x13, 0x00, 0x00, 0x00],
+            "0Bh Fast Read From Cache column 19 -> E1h FFh (1 past the page, from column 0 again)",
+        ),
+        (
+            &[0x13, 0x00, 0x00, 0x00],
+            "13h Page Read row 0: read of row 0 begins, 20 units; status 00h -> 01h (busy)",
+        ),
+        (
+            &[0x03, 0x00, 0x13, 0x00, 0x00, 0x00],
+            "03h Read From Cache column 19 -> FFh FFh; ignored: busy at its first byte",
+        ),
+        (
+            &[0x02, 0x00, 0x13, 0xE1, 0xE2],
+            "02h Program Load column 19 <- E1h E2h (1 past the page, dropped); \
+             ignored: busy at its first byte",
+        ),
+    ];
+    for (bytes, _) in steps {
+        log.transfer(bytes);
+    }
+    let args = ["replay", "--trace", "--bytes", "5", "-"];
+    let trace = succeeds(&with_input(&args, log.as_bytes()));
+    assert_eq!(texts(&trace)[2..], steps.map(|(_, line)| line));
+}
+
 /// The paper for drivers shows what was printed, as it was printed.
 #[track_caller]
 fn is_shown_to_drivers(printed: &str) {
@@ -625,6 +752,23 @@ fn a_trace_of_the_papers() {
     let output = with_input(&args, log.as_bytes());
     assert_eq!(output.status.code(), Some(3), "{}", text(&output.stderr));
     is_shown_to_drivers(&text(&output.stdout));
+}
+
+/// The trace of reads and a load that go past the page's end.
+#[test]
+fn a_trace_of_the_papers_past_the_page() {
+    let mut log = Log::new();
+    log.push(Record::Work(20));
+    log.transfer(&[0x02, 0x00, 0x00, 0xA5, 0x5A]);
+    log.transfer(&[0x84, 0x00, 0x10, 0xC0, 0xC1, 0xC2, 0xC3]);
+    log.transfer(&[0x03, 0x00, 0x12, 0x00, 0x00, 0x00]);
+    log.transfer(&[0x03, 0x00, 0x12, 0x00, 0x00, 0x00, 0x00, 0x00]);
+    log.transfer(&[0x0B, 0x00, 0x10, 0x00, 0x00, 0x00, 0x00, 0x00, 0x00]);
+    log.transfer(&[0x03, 0x00, 0x14, 0x00, 0x00, 0x00, 0x00]);
+    log.transfer(&[0x84, 0x00, 0x13, 0x77, 0x88, 0x99]);
+    log.transfer(&[0x03, 0x00, 0x13, 0x00, 0x00, 0x00, 0x00]);
+    let output = with_input(&["replay", "--trace", "-"], log.as_bytes());
+    is_shown_to_drivers(&succeeds(&output));
 }
 
 /// The protected blocks of the real part, at each BP number and on both sides.
@@ -1021,12 +1165,12 @@ fn a_transfer_begun_before_the_log() {
         (
             &[0x0B, 0x00, 0x12][..],
             &[0x00, 0x00, 0x00, 0x00][..],
-            "03h Read From Cache column 18 -> FFh FFh FFh (1 past the page)",
+            "03h Read From Cache column 18 -> FFh FFh FFh (1 past the page, from column 0 again)",
         ),
         (
             &[0x03, 0x00, 0x10, 0x00, 0x00, 0x00],
             &[0x00, 0x00, 0x00],
-            "03h Read From Cache column 16 -> FFh FFh FFh (1 past the page)",
+            "03h Read From Cache column 16 -> FFh FFh FFh (1 past the page, from column 0 again)",
         ),
         (
             &[0x02, 0x00, 0x10, 0x01, 0x02],
@@ -1063,6 +1207,97 @@ fn a_transfer_begun_before_the_log() {
         let args = ["replay", "--trace", "--image", &image, "-"];
         let trace = succeeds(&with_input(&args, log.as_bytes()));
         assert_eq!(texts(&trace), [format!("begun before the log: {line}")]);
+    }
+}
+
+/// A read told in parts: each tells of the page's end as far as it comes there itself, from the
+/// column that the part before it came to.
+#[test]
+fn a_read_past_the_page_in_parts() {
+    let folder = Folder::new("a_read_past_the_page_in_parts");
+    let image = folder.file("image");
+    #[rustfmt::skip]
+    let reads = [
+        (18, "column 18", vec![
+            (1, 19, " -> 13h"),
+            (1, 0, " -> 14h"),
+            (3, 3, " -> 01h 02h 03h"),
+            (17, 0, " -> 04h 05h 06h .. 17 bytes in all"),
+            (21, 1, " -> 01h 02h 03h .. 21 bytes in all (1 past the page, from column 0 again)"),
+            (59, 0, " -> 02h 03h 04h .. 59 bytes in all (40 past the page, from column 0 again)"),
+        ]),
+        (16, "column 16", vec![
+            (7, 3, " -> 11h 12h 13h .. 7 bytes in all (3 past the page, from column 0 again)"),
+            (13, 16, " -> 04h 05h 06h .. 13 bytes in all"),
+            (3, 19, " -> 11h 12h 13h"),
+            (2, 1, " -> 14h 01h (1 past the page, from column 0 again)"),
+            (40, 1, " -> 02h 03h 04h .. 40 bytes in all (21 past the page, from column 0 again)"),
+        ]),
+        (20, "column 20 (outside the page)", vec![
+            (1, 21, " -> FFh (1 past the page)"),
+            (2, 23, " -> FFh FFh (2 past the page)"),
+            (4072, 4095, " -> FFh FFh FFh .. 4072 bytes in all (4072 past the page)"),
+            (1, 4096, " -> FFh (1 past the page)"),
+            (4097, 4096, " -> FFh FFh FFh .. 4097 bytes in all (4097 past the page)"),
+        ]),
+    ];
+    for (address, begun, parts) in reads {
+        let (_, mut log) = loaded();
+        log.push(Record::Select);
+        log.extend([0x03, 0x00, address].map(Record::Shift));
+        let args = ["replay", "--save", &image, "-"];
+        succeeds(&with_input(&args, log.as_bytes()));
+        // The idle byte is a part of its own.
+        let idle = (1, u16::from(address), "");
+        for (count, column, words) in [idle].into_iter().chain(parts) {
+            let args = ["--image", &image, "--save", &image, "--bytes", "3", "-"];
+            let args = [&["replay", "--trace"], &args[..]].concat();
+            let trace = succeeds(&with_input(&args, &[0x02, 0x00].repeat(count)));
+            let read = format!("begun before the log: 03h Read From Cache {begun}");
+            assert_eq!(texts(&trace), [format!("{read}{words}; still selected")]);
+            let saved = fs::read(&image).expect("the image");
+            assert_eq!(saved[OLD_IMAGE + 14..OLD_IMAGE + 16], column.to_le_bytes());
+        }
+    }
+}
+
+/// It is the column that counts, not the address: a device that was put together by hand may have
+/// the one inside the page and the other outside.
+#[test]
+fn a_read_whose_column_was_put_by_hand() {
+    let folder = Folder::new("a_read_whose_column_was_put_by_hand");
+    let image = folder.file("image");
+    for (address, column, words) in [
+        (
+            0,
+            19,
+            "column 0 -> 14h 01h 02h (2 past the page, from column 0 again)",
+        ),
+        (0, 20, "column 0 -> FFh FFh FFh (3 past the page)"),
+        (0, 4096, "column 0 -> FFh FFh FFh (3 past the page)"),
+        (20, 0, "column 20 (outside the page) -> 01h 02h 03h"),
+        (
+            20,
+            18,
+            "column 20 (outside the page) -> 13h 14h 01h (1 past the page, from column 0 again)",
+        ),
+    ] {
+        for count in [4, 5] {
+            let (_, mut log) = loaded();
+            log.push(Record::Select);
+            let bytes = [0x03, 0x00, address, 0x00, 0x00].map(Record::Shift);
+            log.extend(bytes.into_iter().take(count));
+            let args = ["replay", "--save", &image, "-"];
+            succeeds(&with_input(&args, log.as_bytes()));
+            let mut saved = fs::read(&image).expect("the image");
+            assert_eq!(usize::from(saved[OLD_IMAGE + 6]), count);
+            saved[OLD_IMAGE + 14..OLD_IMAGE + 16].copy_from_slice(&u16::to_le_bytes(column));
+            let by_hand = folder.write("by hand", &saved);
+            let args = ["replay", "--trace", "--image", &by_hand, "-"];
+            let trace = succeeds(&with_input(&args, &[2, 0, 2, 0, 2, 0, 3]));
+            let line = format!("begun before the log: 03h Read From Cache {words}");
+            assert_eq!(texts(&trace), [line]);
+        }
     }
 }
 

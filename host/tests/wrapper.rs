@@ -59,6 +59,112 @@ fn a_transfer_is_one_call_or_comes_in_pieces() {
     assert_eq!(in_pieces, device);
 }
 
+/// A device of one page of so many bytes, each other than its neighbours in the cache register.
+fn of_one_page(bytes: u32) -> Device {
+    let geometry = Geometry {
+        data: bytes,
+        spare: 0,
+        pages: 1,
+        blocks: 1,
+        ..Geometry::bench()
+    };
+    let mut device = Device::power_up(geometry).expect("sound");
+    device.work(bytes.into());
+    for (place, byte) in device.cache_mut().iter_mut().enumerate() {
+        *byte = (place % 251) as u8;
+    }
+    device
+}
+
+/// A cache read from a column, with so many answers.
+fn read_cache(code: u8, column: u16, answers: usize) -> Vec<u8> {
+    let [high, low] = column.to_be_bytes();
+    [&[code, high, low, 0x00], &vec![0x00; answers][..]].concat()
+}
+
+/// Behind the page's end a cache read goes on at column 0: as one call, in pieces, byte by byte and
+/// by a log.
+#[test]
+fn a_cache_read_goes_round() {
+    for (bytes, column) in [
+        (20, 0),
+        (20, 16),
+        (20, 19),
+        (1, 0),
+        (2, 1),
+        (2176, 2048),
+        (2176, 2175),
+        (4096, 4095),
+    ] {
+        let mut device = of_one_page(bytes);
+        let (mut in_pieces, mut by_bytes, mut by_log) =
+            (device.clone(), device.clone(), device.clone());
+        // To the end, the whole page, and one byte more.
+        let (page, first) = (device.cache().to_vec(), usize::from(column));
+        let end = page.len() - first;
+        let read = read_cache(0x03, column, end + page.len() + 1);
+        let answers = [&[0xFF; 4], &page[first..], &page, &page[..1]].concat();
+        assert_eq!(device.transfer(&read), answers);
+
+        in_pieces.select();
+        let mut out = in_pieces.shifts(&read[..4 + end]);
+        assert_eq!((in_pieces.state().column, in_pieces.peek()), (0, page[0]));
+        out.extend(in_pieces.shifts(&read[4 + end..]));
+        assert_eq!(usize::from(in_pieces.state().column), 1 % page.len());
+        in_pieces.deselect();
+        assert_eq!(out, answers);
+
+        by_bytes.select();
+        for (&byte, &answer) in read.iter().zip(&answers) {
+            assert_eq!((by_bytes.peek(), by_bytes.shift(byte)), (answer, answer));
+        }
+        by_bytes.deselect();
+
+        let mut log = Log::new();
+        log.transfer(&read_cache(0x0B, column, end + page.len() + 1));
+        assert_eq!(by_log.replay(log.as_bytes()).1, answers);
+        assert!([in_pieces, by_bytes, by_log].iter().all(|it| *it == device));
+    }
+}
+
+/// A column address outside the page is no column of it, however long the read; nor does a load
+/// come round.
+#[test]
+fn outside_the_page_nothing_goes_round() {
+    let mut device = of_one_page(20);
+    for column in [20, 21, 40, 4095] {
+        for code in [0x03, 0x0B] {
+            device.select();
+            let out = device.shifts(&read_cache(code, column, 4100));
+            assert_eq!((out, device.state().column), (vec![0xFF; 4104], 4096));
+            device.deselect();
+        }
+    }
+    let mut page = device.cache().to_vec();
+    device.transfer(&[0x84, 0x00, 0x12, 0xB1, 0xB2, 0xB3, 0xB4]);
+    device.transfer(&[&[0x84, 0x00, 0x14], &[0xC1; 5000][..]].concat());
+    page[18..].copy_from_slice(&[0xB1, 0xB2]);
+    assert_eq!(device.cache(), page);
+    let out = device.transfer(&read_cache(0x03, 18, 4));
+    assert_eq!(out[4..], [0xB1, 0xB2, 0x00, 0x01]);
+
+    // On the longest page every address is inside; 4,096 comes by hand alone, and is outside.
+    let (geometry, state, cells, cache, counts) = of_one_page(4096).into_parts();
+    let state = State {
+        selected: 1,
+        count: 5,
+        instruction: 0x03,
+        column: 4096,
+        ..state
+    };
+    let mut device = Device::from_parts(geometry, state, cells, cache, counts).expect("sound");
+    assert_eq!(
+        (device.peek(), device.shifts(&[0; 3])),
+        (0xFF, vec![0xFF; 3])
+    );
+    assert_eq!(device.state(), &state);
+}
+
 #[test]
 #[should_panic(expected = "room for a byte out for each in")]
 fn a_transfer_needs_room_for_its_bytes() {

@@ -364,6 +364,57 @@ static void check_page(void)
     CHECK(all(cells, sizeof cells, 0xFF) && counts[5] == 0);
 }
 
+/*
+ * A cache read goes on at column 0 behind the page's end, as a transfer, in pieces, by events and by a log: here from column 17, three
+ * bytes to the end, the whole page, and one byte more. From a column outside the page it is FFh throughout, and a load is dropped there.
+ */
+static void check_round(void)
+{
+    uint8_t di[28] = {SLEET_CODE_READ_CACHE, 0, 17, 0};
+    static const uint8_t load[] = {SLEET_CODE_LOAD_RANDOM, 0, 19, 0x77, 0x88, 0x99};
+    uint8_t expected[sizeof di];
+    uint8_t log[2 * sizeof di + 2];
+    sleet_device device = made_ready();
+    sleet_state ready = device.state;
+    size_t i;
+
+    for (i = 0; i < sizeof cache; i++) {
+        cache[i] = (uint8_t)(0x40 + i);
+    }
+    log[0] = SLEET_KIND_SELECT;
+    for (i = 0; i < sizeof di; i++) {
+        expected[i] = i < 4 ? 0xFF : (uint8_t)(0x40 + (17 + i - 4) % 20);
+        log[1 + 2 * i] = SLEET_KIND_SHIFT;
+        log[2 + 2 * i] = di[i];
+    }
+    log[sizeof log - 1] = SLEET_KIND_DESELECT;
+
+    transfer(&device, di, sizeof di);
+    CHECK(memcmp(out, expected, sizeof expected) == 0 && same_state(device.state, ready));
+
+    memset(out, 0xEE, sizeof out);
+    CHECK(sleet_device_select(&device) == SLEET_DONE && sleet_device_shifts(&device, di, 7, out, 7) == SLEET_DONE);
+    CHECK(device.state.column == 0 && sleet_device_peek(&device) == 0x40);
+    CHECK(sleet_device_shifts(&device, di + 7, sizeof di - 7, out + 7, sizeof out - 7) == SLEET_DONE && device.state.column == 1);
+    CHECK(sleet_device_deselect(&device) == SLEET_DONE && memcmp(out, expected, sizeof expected) == 0);
+
+    CHECK(sleet_device_select(&device) == SLEET_DONE);
+    for (i = 0; i < sizeof di; i++) {
+        CHECK(sleet_device_peek(&device) == expected[i] && sleet_device_shift(&device, di[i]) == expected[i]);
+    }
+    CHECK(sleet_device_deselect(&device) == SLEET_DONE);
+
+    memset(out, 0xEE, sizeof out);
+    CHECK(sleet_device_run(&device, log, sizeof log, out, sizeof out) == SLEET_DONE && device.written == sizeof di);
+    CHECK(memcmp(out, expected, sizeof expected) == 0 && same_state(device.state, ready));
+
+    di[2] = 20;
+    transfer(&device, di, sizeof di);
+    CHECK(all(out, sizeof di, 0xFF));
+    transfer(&device, load, sizeof load);
+    CHECK(cache[18] == 0x52 && cache[19] == 0x77 && cache[0] == 0x40 && cache[1] == 0x41);
+}
+
 /* A transfer without room enough is completed by shifts and a deselect. */
 static void check_too_little_room(void)
 {
@@ -509,6 +560,7 @@ int main(void)
     check_read_id();
     check_probe();
     check_page();
+    check_round();
     check_too_little_room();
     check_continued();
     check_peek();

@@ -242,6 +242,49 @@ static void check_transfers()
     CHECK(flash.work(1) == SLEET_DONE && flash.ready() && flash.cells() == bytes(640, 0xFF) && flash.counts() == bytes(32, 0));
 }
 
+/* A cache read goes on at column 0 behind the page's end, as a transfer, in pieces, by events and by a log; one from outside does not. */
+static void check_round()
+{
+    device flash = made_ready();
+    bytes di = {SLEET_CODE_READ_CACHE, 0, 17, 0};
+    bytes expected(4, 0xFF);
+    bytes log = {SLEET_KIND_SELECT};
+
+    for (std::size_t i = 0; i < 20; i++) {
+        flash.cache()[i] = static_cast<uint8_t>(0x40 + i);
+    }
+    const device before(flash);
+    for (std::size_t column = 17; column < 41; column++) { /* to the end, the whole page, and one byte more */
+        di.push_back(0);
+        expected.push_back(static_cast<uint8_t>(0x40 + column % 20));
+    }
+    for (uint8_t byte : di) {
+        log.push_back(SLEET_KIND_SHIFT);
+        log.push_back(byte);
+    }
+    log.push_back(SLEET_KIND_DESELECT);
+
+    CHECK(transfer(flash, di) == expected && same(flash, before));
+
+    bytes out(di.size());
+    CHECK(flash.select() == SLEET_DONE && flash.shifts(di.data(), 7, out.data(), 7) == SLEET_DONE);
+    CHECK(flash.state().column == 0 && flash.peek() == 0x40);
+    CHECK(flash.shifts(di.data() + 7, di.size() - 7, out.data() + 7, out.size() - 7) == SLEET_DONE && flash.state().column == 1);
+    CHECK(flash.deselect() == SLEET_DONE && out == expected && same(flash, before));
+
+    CHECK(flash.select() == SLEET_DONE);
+    for (std::size_t i = 0; i < di.size(); i++) {
+        CHECK(flash.peek() == expected[i] && flash.shift(di[i]) == expected[i]);
+    }
+    CHECK(flash.deselect() == SLEET_DONE && same(flash, before));
+
+    out.assign(di.size(), 0xEE);
+    CHECK(flash.run(log.data(), log.size(), out.data(), out.size()) == SLEET_DONE && out == expected && same(flash, before));
+
+    di[2] = 20;
+    CHECK(transfer(flash, di) == bytes(di.size(), 0xFF) && same(flash, before));
+}
+
 /* A transfer without room enough is completed by shifts and a deselect; one on a chip that is selected continues the old one. */
 static void check_pieces()
 {
@@ -389,6 +432,7 @@ int main()
     check_logs();
     check_probe();
     check_transfers();
+    check_round();
     check_pieces();
     check_questions();
     check_long_work();

@@ -1,7 +1,7 @@
 /*
- * The C interface from C, and from C++ (the file is compiled as both): document 01's log on the bench part, refusals, transfers, resets,
- * single events, questions, blank memory, records of a log, and texts. Each check that fails is printed; the program's status is 0 if there
- * is none.
+ * The C interface from C, and from C++ (the file is compiled as both): document 01's log on the bench part, refusals, transfers, cache
+ * reads past the page's end, resets, single events, questions, blank memory, records of a log, and texts. Each check that fails is printed;
+ * the program's status is 0 if there is none.
  */
 #include <string.h>
 
@@ -277,6 +277,54 @@ static void check_transfers(void)
     CHECK(refused(answer, SLEET_BAD_PART, 0, 0, 0) && same_state(answer.state, start) && out[0] == 0xEE);
 }
 
+/*
+ * A cache read goes on at column 0 behind the page's end, as a transfer, in pieces and by a log: here from column 15, five bytes to the
+ * end, and seven more. At a column of P or more it is FFh throughout, and the column runs on up to 4096.
+ */
+static void check_round(void)
+{
+    static const uint8_t di[16] = {SLEET_CODE_READ_CACHE_FAST, 0x00, 15};
+    static const uint8_t expected[16] = {0xFF, 0xFF, 0xFF, 0xFF, 0x4F, 0x50, 0x51, 0x52, 0x53, 0x40, 0x41, 0x42, 0x43, 0x44, 0x45, 0x46};
+    static const uint16_t columns[5][2] = {{19, 0}, {20, 21}, {21, 22}, {4095, 4096}, {4096, 4096}};
+    uint8_t log[34] = {SLEET_KIND_SELECT};
+    sleet_geometry part = sleet_bench();
+    sleet_state ready;
+    sleet_state reading;
+    sleet_answer answer;
+    size_t i;
+
+    erase_all();
+    ready = sleet_work(part, sleet_power_up(), 20, MEMORY).state;
+    for (i = 0; i < sizeof cache; i++) {
+        cache[i] = (uint8_t)(0x40 + i);
+    }
+    answer = transfer(ready, di, sizeof di, sizeof out);
+    CHECK(refused(answer, SLEET_DONE, 18, 0, 16) && memcmp(out, expected, sizeof expected) == 0 && same_state(answer.state, ready));
+
+    memset(out, 0xEE, sizeof out);
+    answer = transfer(ready, di, sizeof di, 9);
+    CHECK(refused(answer, SLEET_NO_ROOM, 10, 0, 9) && answer.state.column == 0 && out[9] == 0xEE);
+    reading = answer.state;
+    CHECK(sleet_peek(part, reading, cache, sizeof cache).byte == 0x40);
+    answer = sleet_shifts(part, reading, di + 9, 7, MEMORY, out + 9, 7);
+    CHECK(refused(answer, SLEET_DONE, 7, 0, 7) && answer.state.column == 7 && memcmp(out, expected, sizeof expected) == 0);
+
+    for (i = 0; i < sizeof di; i++) {
+        log[1 + 2 * i] = SLEET_KIND_SHIFT;
+        log[2 + 2 * i] = di[i];
+    }
+    log[33] = SLEET_KIND_DESELECT;
+    memset(out, 0xEE, sizeof out);
+    answer = run(ready, log, sizeof log, sizeof out);
+    CHECK(refused(answer, SLEET_DONE, 18, 34, 16) && memcmp(out, expected, sizeof expected) == 0 && same_state(answer.state, ready));
+
+    for (i = 0; i < 5; i++) {
+        reading.column = columns[i][0];
+        answer = sleet_shift(part, reading, 0x00, MEMORY, out, 1);
+        CHECK(answer.state.column == columns[i][1] && out[0] == (columns[i][0] < 20 ? 0x53 : 0xFF));
+    }
+}
+
 /* Returns the power-up state with another job, row and units done. */
 static sleet_state at_work(uint8_t job, uint16_t row, size_t units)
 {
@@ -512,6 +560,7 @@ int main(void)
     check_events();
     check_names();
     check_transfers();
+    check_round();
     check_resets();
     check_questions();
     check_blank();

@@ -82,12 +82,12 @@ impl Transfer {
         self.before.map_or(from, |before| before.count.max(from))
     }
 
-    /// The column of the first byte of data in the log, where data begins at a place of the
-    /// transfer.
-    fn column(&self, from: usize, column: usize) -> usize {
+    /// The column of the first byte of data in the log: the address, or where a transfer whose
+    /// address was before the log had come to.
+    fn column(&self, address: usize) -> usize {
         match self.before {
-            Some(before) if before.count > from => before.column,
-            _ => column,
+            Some(before) if before.count > 2 => before.column,
+            _ => address,
         }
     }
 }
@@ -271,18 +271,24 @@ impl<W: Write> Tracer<W> {
                 format!(" {row}{}", self.data("and", transfer.sent(4)))
             }
             (Form::ReadCache, [high, low, ..]) => {
-                let (column, data) = (column(*high, *low), transfer.answered(4));
-                let past = self.past(transfer.column(4, column), data.len());
-                let past = past.map_or_else(String::new, |past| format!(" ({past} past the page)"));
-                format!(" {}{}{past}", self.column(column), self.data("->", data))
+                let (address, data) = (column(*high, *low), transfer.answered(4));
+                let first = transfer.column(address);
+                let past = match past(self.page(), first, data.len()) {
+                    0 => String::new(),
+                    past if first >= self.page() => format!(" ({past} past the page)"),
+                    // What is ignored moves no column.
+                    _ if transfer.ignored => String::new(),
+                    past => format!(" ({past} past the page, from column 0 again)"),
+                };
+                format!(" {}{}{past}", self.column(address), self.data("->", data))
             }
             (Form::Load, [high, low, ..]) => {
-                let (column, data) = (column(*high, *low), transfer.sent(3));
-                let past = self.past(transfer.column(3, column), data.len());
-                let past = past.map_or_else(String::new, |past| {
-                    format!(" ({past} past the page, dropped)")
-                });
-                format!(" {}{}{past}", self.column(column), self.data("<-", data))
+                let (address, data) = (column(*high, *low), transfer.sent(3));
+                let past = match past(self.page(), transfer.column(address), data.len()) {
+                    0 => String::new(),
+                    past => format!(" ({past} past the page, dropped)"),
+                };
+                format!(" {}{}{past}", self.column(address), self.data("<-", data))
             }
             _ => self.data("with", rest),
         };
@@ -322,17 +328,15 @@ impl<W: Write> Tracer<W> {
     }
 
     fn column(&self, column: usize) -> String {
-        match column < self.device.geometry().cache_len() {
+        match column < self.page() {
             true => format!("column {column}"),
             false => format!("column {column} (outside the page)"),
         }
     }
 
-    /// How many bytes from a column on are past the page, if any are.
-    fn past(&self, column: usize, count: usize) -> Option<usize> {
-        let page = self.device.geometry().cache_len();
-        let past = count.min((column + count).saturating_sub(page));
-        (past > 0).then_some(past)
+    /// The bytes of a page.
+    fn page(&self) -> usize {
+        self.device.geometry().cache_len()
     }
 
     /// Bytes after a word, as many as are shown; nothing for no bytes.
@@ -497,6 +501,14 @@ fn column(high: u8, low: u8) -> usize {
     usize::from(u16::from_be_bytes([high & 0x0F, low]))
 }
 
+/// How many of the bytes that a line tells, the first of them at a column, come behind the page's
+/// end. Where a read goes round more than once they are all those behind the first end; from a
+/// column outside the page on they are all.
+fn past(page: usize, first: usize, count: usize) -> usize {
+    let inside = page.saturating_sub(first);
+    count.saturating_sub(inside)
+}
+
 /// The bits of a status register in words.
 fn status_words(status: u8) -> String {
     const BITS: [(u8, &str); 4] = [
@@ -514,4 +526,107 @@ fn status_words(status: u8) -> String {
         words += "idle";
     }
     words
+}
+
+#[cfg(test)]
+mod tests {
+    use sleetanvil::{Device, Geometry, Record, State};
+
+    use super::Tracer;
+
+    /// A device of one page of so many bytes, each other than its neighbours, in a transfer that
+    /// has come to a column. Its address was 0.
+    fn device(page: u32, code: u16, count: u8, column: u32) -> Device {
+        let geometry = Geometry {
+            data: page,
+            spare: 0,
+            pages: 1,
+            blocks: 1,
+            ..Geometry::bench()
+        };
+        let state = State {
+            c0: 0x00,
+            job: 0,
+            selected: 1,
+            instruction: code,
+            count,
+            column: column as u16,
+            ..State::power_up()
+        };
+        let cells = vec![0xFF; page as usize];
+        let cache = (0..page).map(|place| (place % 251) as u8).collect();
+        Device::from_parts(geometry, state, cells, cache, vec![0]).expect("a sound device")
+    }
+
+    /// The bytes before data comes: the idle one of a read, if it has not come yet.
+    fn idle(state: &State) -> usize {
+        usize::from(state.instruction == 0x03 && state.count == 3)
+    }
+
+    /// What the trace says behind the data, if so many bytes of it come.
+    fn told(device: &Device, bytes: usize) -> String {
+        let mut trace = Vec::new();
+        let mut tracer = Tracer::new(device.clone(), 0, &mut trace);
+        for _ in 0..idle(device.state()) + bytes {
+            tracer.record(Record::Shift(0x5A)).expect("memory");
+        }
+        tracer.record(Record::Deselect).expect("memory");
+        tracer.finish().expect("memory");
+        let trace = String::from_utf8(trace).expect("text");
+        let (_, words) = trace.split_once(" in all").expect("a count of the data");
+        words.trim_end().into()
+    }
+
+    /// What there is to say, by the columns that the library goes to.
+    fn done(mut device: Device, bytes: usize) -> String {
+        let page = device.geometry().cache_len();
+        let load = device.state().instruction == 0x02;
+        device.shifts(&vec![0x5A; idle(device.state())]);
+        let (mut past, mut round) = (0, false);
+        for _ in 0..bytes {
+            let before = usize::from(device.state().column);
+            let cached = device.cache().get(before).copied().unwrap_or(0xFF);
+            let answer = device.shift(0x5A);
+            let after = usize::from(device.state().column);
+            assert!(load || answer == cached, "column {before} of {page}");
+            past += usize::from(before >= page || round);
+            round |= after <= before && after < page;
+        }
+        match past {
+            0 => String::new(),
+            _ if load => format!(" ({past} past the page, dropped)"),
+            _ if round => format!(" ({past} past the page, from column 0 again)"),
+            _ => format!(" ({past} past the page)"),
+        }
+    }
+
+    /// Reads and loads that go on from columns near the borders, by one byte, by two, to the
+    /// page's end and one further, and so again two pages later.
+    #[test]
+    fn past_the_page() {
+        let mut met = [0; 4];
+        for page in [1_u32, 2, 3, 20, 2_176, 4_095, 4_096] {
+            let near = [0, 1, page - 1, page, page + 1, 4_094, 4_095, 4_096];
+            let columns = near.into_iter().chain(page.checked_sub(2));
+            for column in columns.filter(|&column| column <= 4_096) {
+                let end = page.saturating_sub(column) as usize;
+                let later = end + 2 * page as usize;
+                for (code, count) in [(0x03, 3), (0x03, 4), (0x03, 5), (0x02, 3), (0x02, 5)] {
+                    let device = device(page, code, count, column);
+                    for bytes in [1, 2, end.max(1), end + 1, later, later + 1] {
+                        let words = done(device.clone(), bytes);
+                        let place = format!("{code:02X}h, {bytes} from column {column} of {page}");
+                        assert_eq!(told(&device, bytes), words, "{place}");
+                        met[match &words[..] {
+                            "" => 0,
+                            words if words.ends_with("again)") => 1,
+                            words if words.ends_with("dropped)") => 2,
+                            _ => 3,
+                        }] += 1;
+                    }
+                }
+            }
+        }
+        assert!(met.iter().all(|&times| times > 100), "{met:?}");
+    }
 }
