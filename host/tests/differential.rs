@@ -994,18 +994,23 @@ mod impostors {
         let mut late = false;
         with_next_columns(case, |right, read| {
             let was_late = std::mem::replace(&mut late, read.is_last()) && read.count > 4;
-            match read.column == read.page && was_late {
-                true => 0,
-                false if late => read.page,
-                false => right,
+            if read.is_last() {
+                read.page
+            } else if was_late && read.column == read.page {
+                0
+            } else {
+                right
             }
         })
     }
 
     fn goes_round_early(case: &Case) -> Outcome {
-        with_next_columns(case, |right, read| match read.column + 2 == read.page {
-            true => 0,
-            false => right,
+        with_next_columns(case, |right, read| {
+            if read.column + 2 == read.page {
+                0
+            } else {
+                right
+            }
         })
     }
 
@@ -1027,10 +1032,16 @@ mod impostors {
     }
 
     fn goes_round_from_p(case: &Case) -> Outcome {
-        with_next_columns(case, |right, read| match read.column == read.page {
-            true => 0,
-            false => right,
-        })
+        with_next_columns(
+            case,
+            |right, read| {
+                if read.column == read.page {
+                    0
+                } else {
+                    right
+                }
+            },
+        )
     }
 
     fn goes_round_from_4096(case: &Case) -> Outcome {
@@ -1076,9 +1087,10 @@ mod impostors {
                 rounds = 0;
             }
             rounds += usize::from(read.is_last());
-            match read.is_last() && rounds > 1 {
-                true => read.page,
-                false => right,
+            if read.is_last() && rounds > 1 {
+                read.page
+            } else {
+                right
             }
         })
     }
