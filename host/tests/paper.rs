@@ -623,6 +623,9 @@ fn reading(count: u8, column: u16) -> State {
     }
 }
 
+/// A model on a case, in other memory than the case's own.
+type Run = fn(&Case, &mut Buffers) -> Answer;
+
 /// Run a log of shifts on both models; the bytes out, the column behind them, and a memory that is
 /// left alone.
 fn reads(geometry: Geometry, state: State, log: &[u8], out: &[u8], column: usize) {
@@ -630,9 +633,8 @@ fn reads(geometry: Geometry, state: State, log: &[u8], out: &[u8], column: usize
         state,
         ..Case::power_up(geometry, log)
     };
-    let runs: [(&str, fn(&Case, &mut Buffers) -> Answer); 2] =
-        [("paper", model_on), ("library", library_on)];
-    for (name, run) in runs {
+    let both: [(&str, Run); 2] = [("paper", model_on), ("library", library_on)];
+    for (name, run) in both {
         let mut buffers = told_apart(&case);
         let answer = run(&case, &mut buffers);
         let what = format!("{name}, {geometry:?}, {state:?}, {} bytes", out.len());
