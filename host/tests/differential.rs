@@ -6,12 +6,14 @@
 
 mod support;
 
+use std::collections::BTreeMap;
+
 use sleetanvil::case::{hex, model, model_on, untouched_output, Buffers, Case, Outcome};
 use sleetanvil::lent;
 use sleetanvil::raw::{self, RawRecord};
 use sleetanvil::{paper, Answer, Geometry, Log, Record, Refusal, State};
 use support::compare::{answer_difference, bytes_difference, difference, library, library_on};
-use support::generate::Generator;
+use support::generate::{cache_read, Generator};
 use support::hunt::{cases, hunt, report, seed};
 use support::rng::Rng;
 
@@ -55,7 +57,7 @@ fn event_by_event_is_the_whole_run() {
 #[test]
 fn transfers_agree() {
     let seed = seed() ^ 10;
-    let mut stopped = 0;
+    let (mut stopped, mut round) = (0, 0);
     for number in 0..cases() / 4 {
         let mut generator = Generator::new(seed, number);
         let mut case = generator.case();
@@ -91,12 +93,28 @@ fn transfers_agree() {
             }
         }
         stopped += u64::from(got.answer.refusal == Some(Refusal::NoRoom));
+        round += u64::from(whole && goes_round(&case, &di, got.answer.written));
     }
     assert!(stopped > 0, "no transfer stopped for want of room");
+    assert!(round > 0, "no transfer read past the page's end");
 }
 
-/// The bytes of a transfer: any, or those of an instruction with a column and much data.
+/// Whether so many bytes of a transfer of its own read on past the page's end.
+fn goes_round(case: &Case, di: &[u8], bytes: usize) -> bool {
+    let [0x03 | 0x0B, high, low, ..] = *di else {
+        return false;
+    };
+    let column = usize::from(u16::from_be_bytes([high & 0x0F, low]));
+    let heard = (case.state.selected, case.state.job) == (0, 0);
+    heard && column < case.cache.len && bytes > 4 + case.cache.len - column
+}
+
+/// The bytes of a transfer: any, those of an instruction with a column and much data, or those of a
+/// cache read.
 fn any_transfer(rng: &mut Rng, geometry: &Geometry) -> Vec<u8> {
+    if rng.percent(20) {
+        return cache_read(rng, geometry);
+    }
     let codes = [
         0x03, 0x0B, 0x02, 0x84, 0x0F, 0x9F, 0x1F, 0x13, 0x10, 0xD8, 0x06, 0xFF,
     ];
@@ -602,6 +620,12 @@ fn resets(state: &State, record: paper::Record) -> bool {
     risen && (state.instruction, state.count) == (0xFF, 1)
 }
 
+/// Whether a record is a shift that a cache read answers.
+fn answers_from_cache(state: &State, record: paper::Record) -> bool {
+    let reading = state.selected == 1 && state.instruction == 0x03 && state.count >= 4;
+    reading && matches!(record, paper::Record::Shift(_))
+}
+
 fn raw_record(kind: u8, byte: u8, units: u16) -> RawRecord {
     RawRecord { kind, byte, units }
 }
@@ -644,6 +668,32 @@ mod impostors {
         ("takes a reset with 8 units done", takes_8_units),
         ("takes a reset with a row", takes_a_row),
         ("keeps the row of what a reset stopped", keeps_the_row),
+        ("reads FFh past the page", reads_ff_past_the_page),
+        ("goes round in a load", goes_round_in_a_load),
+        ("goes round one late", goes_round_late),
+        ("goes round one early", goes_round_early),
+        ("goes round to column 1", goes_round_to_1),
+        ("goes round behind the data bytes", goes_round_at_the_spare),
+        ("takes a column address of P for 0", takes_p_for_0),
+        ("goes round from a column of P", goes_round_from_p),
+        ("goes round from a column of 4,096", goes_round_from_4096),
+        ("takes a column address modulo P", takes_columns_modulo),
+        ("takes a column handed in modulo P", takes_states_modulo),
+        ("goes round by 03h alone", goes_round_by_03),
+        ("goes round by 0Bh alone", goes_round_by_0b),
+        ("goes round once in a transfer", goes_round_once),
+        (
+            "goes round by a later answer alone",
+            goes_round_by_later_answers,
+        ),
+        (
+            "goes round by the first answer alone",
+            goes_round_by_the_first_answer,
+        ),
+        ("goes round on no page of one byte", not_on_the_shortest),
+        ("goes round on no page of 4,096 bytes", not_on_the_longest),
+        ("tells column P behind the last byte", tells_column_p),
+        ("moves the column by the idle byte", moves_by_the_idle_byte),
     ];
 
     #[test]
@@ -656,7 +706,11 @@ mod impostors {
 
     #[test]
     fn the_model_itself_is_not() {
-        assert!(hunt(model, model, 1, 2000).is_none());
+        let in_steps = |case: &Case| with_next_columns(case, |right, _| right);
+        let by_address = |case: &Case| with_column_addresses(case, |column, _| column);
+        for subject in [model, in_steps, by_address] {
+            assert!(hunt(subject, model, 1, 2000).is_none());
+        }
     }
 
     #[test]
@@ -921,6 +975,229 @@ mod impostors {
         outcome
     }
 
+    fn reads_ff_past_the_page(case: &Case) -> Outcome {
+        with_next_columns(case, |_, read| read.column + 1)
+    }
+
+    fn goes_round_in_a_load(case: &Case) -> Outcome {
+        with_changes(case, |before, record, after, buffers| {
+            let data = matches!(before.instruction, 0x02 | 0x84) && before.count >= 3;
+            let stored = before.selected == 1 && matches!(record, paper::Record::Shift(_)) && data;
+            if stored && usize::from(before.column) + 1 == buffers.cache.len() {
+                after.column = 0;
+            }
+        })
+    }
+
+    /// FFh once, and then column 0.
+    fn goes_round_late(case: &Case) -> Outcome {
+        let mut late = false;
+        with_next_columns(case, |right, read| {
+            let was_late = std::mem::replace(&mut late, read.is_last()) && read.count > 4;
+            if read.is_last() {
+                read.page
+            } else if was_late && read.column == read.page {
+                0
+            } else {
+                right
+            }
+        })
+    }
+
+    fn goes_round_early(case: &Case) -> Outcome {
+        with_next_columns(case, |right, read| {
+            if read.column + 2 == read.page {
+                0
+            } else {
+                right
+            }
+        })
+    }
+
+    fn goes_round_to_1(case: &Case) -> Outcome {
+        with_next_columns(case, |right, read| if read.is_last() { 1 } else { right })
+    }
+
+    fn goes_round_at_the_spare(case: &Case) -> Outcome {
+        let data = case.geometry.data as usize;
+        with_next_columns(case, |right, read| match read.column + 1 {
+            next if next == data => 0,
+            next if next == read.page => next,
+            _ => right,
+        })
+    }
+
+    fn takes_p_for_0(case: &Case) -> Outcome {
+        with_column_addresses(case, |column, page| if column == page { 0 } else { column })
+    }
+
+    fn goes_round_from_p(case: &Case) -> Outcome {
+        with_next_columns(
+            case,
+            |right, read| {
+                if read.column == read.page {
+                    0
+                } else {
+                    right
+                }
+            },
+        )
+    }
+
+    fn goes_round_from_4096(case: &Case) -> Outcome {
+        with_next_columns(case, |right, read| match read.column {
+            4096 => 0,
+            _ => right,
+        })
+    }
+
+    fn takes_columns_modulo(case: &Case) -> Outcome {
+        with_column_addresses(case, |column, page| column % page)
+    }
+
+    fn takes_states_modulo(case: &Case) -> Outcome {
+        let mut handed_in = true;
+        record_by_record(case, model_on, |record, mut before, buffers| {
+            handed_in &= before.selected == 1 && before.count > 0;
+            if handed_in && answers_from_cache(&before, record) {
+                before.column %= buffers.cache.len() as u16;
+            }
+            model_step(&case.geometry, record, before, buffers)
+        })
+    }
+
+    fn goes_round_by_03(case: &Case) -> Outcome {
+        with_next_columns(case, |right, read| match read.code {
+            Some(0x0B) => read.column + 1,
+            _ => right,
+        })
+    }
+
+    fn goes_round_by_0b(case: &Case) -> Outcome {
+        with_next_columns(case, |right, read| match read.code {
+            Some(0x03) => read.column + 1,
+            _ => right,
+        })
+    }
+
+    fn goes_round_once(case: &Case) -> Outcome {
+        let mut rounds = 0;
+        with_next_columns(case, |right, read| {
+            if read.count == 4 {
+                rounds = 0;
+            }
+            rounds += usize::from(read.is_last());
+            if read.is_last() && rounds > 1 {
+                read.page
+            } else {
+                right
+            }
+        })
+    }
+
+    fn goes_round_by_later_answers(case: &Case) -> Outcome {
+        with_next_columns(case, |right, read| match read.count {
+            4 => read.column + 1,
+            _ => right,
+        })
+    }
+
+    fn goes_round_by_the_first_answer(case: &Case) -> Outcome {
+        with_next_columns(case, |right, read| match read.count {
+            4 => right,
+            _ => read.column + 1,
+        })
+    }
+
+    fn not_on_the_shortest(case: &Case) -> Outcome {
+        with_next_columns(case, |right, read| match read.page {
+            1 => read.column + 1,
+            _ => right,
+        })
+    }
+
+    fn not_on_the_longest(case: &Case) -> Outcome {
+        with_next_columns(case, |right, read| match read.page {
+            4096 => read.column + 1,
+            _ => right,
+        })
+    }
+
+    /// Right in every byte, and wrong in the state between the page's last and its first.
+    fn tells_column_p(case: &Case) -> Outcome {
+        let mut at_the_end = false;
+        let mut outcome = with_changes(case, |before, record, after, buffers| {
+            let last = usize::from(before.column) + 1 == buffers.cache.len();
+            match record {
+                paper::Record::Shift(_) => {
+                    at_the_end = last && answers_from_cache(before, record);
+                }
+                _ => at_the_end &= after.selected == 1,
+            }
+        });
+        if at_the_end {
+            outcome.answer.state.column = case.cache.len as u16;
+        }
+        outcome
+    }
+
+    fn moves_by_the_idle_byte(case: &Case) -> Outcome {
+        with_changes(case, |before, record, after, _| {
+            let reading = before.selected == 1 && before.instruction == 0x03;
+            if reading && before.count == 3 && matches!(record, paper::Record::Shift(_)) {
+                after.column = 4096.min(before.column + 1);
+            }
+        })
+    }
+
+    /// An answer of a cache read.
+    struct ReadOut {
+        /// The first byte of the transfer; none if it was handed in.
+        code: Option<u8>,
+        /// The count of bytes before it.
+        count: u8,
+        /// Its column.
+        column: usize,
+        /// The bytes of a page.
+        page: usize,
+    }
+
+    impl ReadOut {
+        fn is_last(&self) -> bool {
+            self.column + 1 == self.page
+        }
+    }
+
+    /// The model with another column behind the answers of cache reads; it is given the right one.
+    fn with_next_columns(case: &Case, mut next: impl FnMut(usize, ReadOut) -> usize) -> Outcome {
+        let mut code = None;
+        with_changes(case, |before, record, after, buffers| match record {
+            paper::Record::Shift(_) if answers_from_cache(before, record) => {
+                let read = ReadOut {
+                    code,
+                    count: before.count,
+                    column: before.column.into(),
+                    page: buffers.cache.len(),
+                };
+                after.column = next(after.column.into(), read).min(4096) as u16;
+            }
+            paper::Record::Shift(byte) if (before.selected, before.count) == (1, 0) => {
+                code = Some(byte);
+            }
+            _ => {}
+        })
+    }
+
+    /// The model with other columns than those that the two bytes of a cache read name.
+    fn with_column_addresses(case: &Case, column: impl Fn(usize, usize) -> usize) -> Outcome {
+        with_changes(case, |before, record, after, buffers| {
+            let reading = before.selected == 1 && before.instruction == 0x03;
+            if reading && before.count == 2 && matches!(record, paper::Record::Shift(_)) {
+                after.column = column(after.column.into(), buffers.cache.len()) as u16;
+            }
+        })
+    }
+
     fn is_resetting(state: &State) -> bool {
         state.job == Job::Reset.number()
     }
@@ -1093,5 +1370,120 @@ mod completeness {
         assert!(within.iter().all(|&seen| seen > 20), "{within:?}");
         let reached = [begun_behind, power_within, ended_within];
         assert!(reached.iter().all(|&seen| seen > 20), "{reached:?}");
+    }
+
+    /// Logs read on past the page's end, on short pages and on the longest, and from columns past it.
+    #[test]
+    fn logs_read_past_the_page() {
+        // What an answer of a cache read can be, and more than how many of it are seen.
+        const REACHED: [(&str, u32); 22] = [
+            ("round on a page of 1", 600),
+            ("round on a page of 2", 150),
+            ("round on a page of 3", 70),
+            ("round on a page of 20", 180),
+            ("round on a page of 4,096", 40),
+            ("round on another page", 900),
+            ("round by 03h", 900),
+            ("round by 0Bh", 900),
+            ("round in a read that was handed in", 250),
+            ("round at the first answer", 600),
+            ("round at a later one", 1400),
+            ("round for the second time, on a page of 2 or more", 200),
+            ("round for the second time, on a page of 200 or more", 5),
+            ("round behind a load past the end", 750),
+            ("no room behind the page's end", 12),
+            ("from column P by its address", 150),
+            ("from a later column by its address", 450),
+            ("from column 4,095 by its address, past the page", 180),
+            ("from column P that was handed in", 80),
+            ("from column 4,096 that was handed in", 70),
+            (
+                "from column 4,096 that was handed in, on a page of 4,096",
+                1,
+            ),
+            ("as the second past the page", 800),
+        ];
+        let mut seen = BTreeMap::new();
+        for number in 0..20_000 {
+            let case = Generator::new(seed() ^ 16, number).case();
+            let mut saw = |what| *seen.entry(what).or_insert(0) += 1;
+            let page = case.cache.len;
+            let (mut code, mut rounds, mut past, mut loaded) = (None, 0, 0, false);
+            record_by_record(&case, model_on, |record, before, buffers| {
+                let answer = model_step(&case.geometry, record, before, buffers);
+                let paper::Record::Shift(byte) = record else {
+                    if before.selected != answer.state.selected {
+                        (code, rounds, past) = (Some(0), 0, 0);
+                    }
+                    return answer;
+                };
+                let column = usize::from(before.column);
+                if before.selected == 1 && before.count == 0 {
+                    code = Some(byte);
+                }
+                if before.selected == 1 && before.count >= 3 && column >= page {
+                    loaded |= matches!(before.instruction, 0x02 | 0x84);
+                }
+                if !answers_from_cache(&before, record) {
+                    return answer;
+                }
+                if answer.refusal.is_some() {
+                    if rounds > 0 {
+                        saw("no room behind the page's end");
+                    }
+                } else if column + 1 == page {
+                    rounds += 1;
+                    saw(match page {
+                        1 => "round on a page of 1",
+                        2 => "round on a page of 2",
+                        3 => "round on a page of 3",
+                        20 => "round on a page of 20",
+                        4096 => "round on a page of 4,096",
+                        _ => "round on another page",
+                    });
+                    saw(match code {
+                        Some(0x0B) => "round by 0Bh",
+                        Some(_) => "round by 03h",
+                        None => "round in a read that was handed in",
+                    });
+                    saw(match before.count {
+                        4 => "round at the first answer",
+                        _ => "round at a later one",
+                    });
+                    if rounds == 2 && page >= 2 {
+                        saw("round for the second time, on a page of 2 or more");
+                    }
+                    if rounds == 2 && page >= 200 {
+                        saw("round for the second time, on a page of 200 or more");
+                    }
+                    if loaded {
+                        saw("round behind a load past the end");
+                    }
+                } else if column >= page {
+                    past += 1;
+                    if past == 2 {
+                        saw("as the second past the page");
+                    }
+                    match (code, column, past) {
+                        (Some(_), 4095, 1) => {
+                            saw("from column 4,095 by its address, past the page")
+                        }
+                        (Some(_), _, 1) if column == page => saw("from column P by its address"),
+                        (Some(_), _, 1) => saw("from a later column by its address"),
+                        (None, 4096, 1) if page == 4096 => {
+                            saw("from column 4,096 that was handed in, on a page of 4,096")
+                        }
+                        (None, 4096, 1) => saw("from column 4,096 that was handed in"),
+                        (None, _, 1) if column == page => saw("from column P that was handed in"),
+                        _ => {}
+                    }
+                }
+                answer
+            });
+        }
+        for (what, least) in REACHED {
+            let seen = seen.get(what).copied().unwrap_or(0);
+            assert!(seen > least, "{what}: {seen}");
+        }
     }
 }

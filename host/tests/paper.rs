@@ -1,6 +1,6 @@
 //! Document 01's own examples, each worked out from the paper: its replay, its thirteen cases, the
-//! protected blocks as the docs have them, and the errors that look right; and document 02's item 2,
-//! a reset that takes time.
+//! protected blocks as the docs have them, and the errors that look right; and document 02's items 2, a
+//! reset that takes time, and 6, reading past the page's end.
 //!
 //! Each is put to the independent model and to the proved library.
 
@@ -9,9 +9,9 @@ mod support;
 use std::fs;
 use std::path::Path;
 
-use sleetanvil::case::{model, Case, Fill, Outcome, Subject};
-use sleetanvil::{lent, paper, raw, Geometry, Job, Operation, Refusal, State};
-use support::compare::library;
+use sleetanvil::case::{model, model_on, Buffers, Case, Fill, Outcome, Subject};
+use sleetanvil::{lent, paper, raw, Answer, Geometry, Job, Operation, Refusal, State};
+use support::compare::{library, library_on};
 
 const BOTH: [(&str, Subject); 2] = [("paper", model), ("library", library)];
 
@@ -588,6 +588,245 @@ fn only_02h_fills_the_cache() {
             expected[5] = 0xA1;
             assert_eq!(outcome.buffers.cache, expected);
         });
+    }
+}
+
+/// Parts of one page: one byte, a few, as the named parts have it, the longest.
+fn single_pages() -> [Geometry; 6] {
+    [(1, 0), (1, 1), (2, 1), (16, 4), (2048, 128), (4096, 0)].map(|(data, spare)| Geometry {
+        data,
+        spare,
+        pages: 1,
+        blocks: 1,
+        ..Geometry::bench()
+    })
+}
+
+/// A case's memory, with a cache register that has no FFh and does not repeat in step with a page.
+fn told_apart(case: &Case) -> Buffers {
+    Buffers {
+        cache: (0..case.cache.len)
+            .map(|place| (place % 251) as u8)
+            .collect(),
+        ..case.buffers()
+    }
+}
+
+/// A cache read under way: so many bytes were shifted, and this column is the next.
+fn reading(count: u8, column: u16) -> State {
+    State {
+        selected: 1,
+        count,
+        instruction: 0x03,
+        column,
+        ..idle(0x00)
+    }
+}
+
+/// A model on a case, in other memory than the case's own.
+type Run = fn(&Case, &mut Buffers) -> Answer;
+
+/// Run a log of shifts on both models; the bytes out, the column behind them, and a memory that is
+/// left alone.
+fn reads(geometry: Geometry, state: State, log: &[u8], out: &[u8], column: usize) {
+    let case = Case {
+        state,
+        ..Case::power_up(geometry, log)
+    };
+    let both: [(&str, Run); 2] = [("paper", model_on), ("library", library_on)];
+    for (name, run) in both {
+        let mut buffers = told_apart(&case);
+        let answer = run(&case, &mut buffers);
+        let what = format!("{name}, {geometry:?}, {state:?}, {} bytes", out.len());
+        assert_eq!(
+            (answer.refusal, answer.written),
+            (None, out.len()),
+            "{what}"
+        );
+        assert!(buffers.out[..out.len()] == *out, "{what}");
+        assert_eq!(usize::from(answer.state.column), column, "{what}");
+        buffers.out = case.buffers().out;
+        assert!(buffers == told_apart(&case), "{what}");
+    }
+}
+
+/// The log of a transfer that does not end.
+fn begun(bytes: &[u8], more: usize) -> Vec<u8> {
+    let mut log = transfer(&[bytes, &vec![0; more]].concat());
+    log.pop();
+    log
+}
+
+/// So many answers from a column on, as the request has them.
+fn answers(page: usize, column: usize, count: usize) -> Vec<u8> {
+    if column >= page {
+        return vec![0xFF; count];
+    }
+    let columns = (column..column + count).map(|column| column % page);
+    columns.map(|column| (column % 251) as u8).collect()
+}
+
+#[test]
+fn a_cache_read_goes_round() {
+    for geometry in single_pages() {
+        let page = geometry.cache_len();
+        for code in [0x03, 0x0B] {
+            for column in [0, page / 2, page.saturating_sub(2), page - 1] {
+                let left = page - column;
+                for count in [1, left, left + 1, left + page + 1, 4 * page + 3] {
+                    let [high, low] = (column as u16).to_be_bytes();
+                    let log = begun(&[code, high, low, 0], count);
+                    let out = [vec![0xFF; 4], answers(page, column, count)].concat();
+                    let next = (column + count) % page;
+                    reads(geometry, idle(0x00), &log, &out, next);
+                }
+            }
+        }
+    }
+}
+
+#[test]
+fn a_column_address_past_the_page_answers_ff() {
+    for geometry in single_pages() {
+        let page = geometry.cache_len();
+        for column in [page, page + 1, 2 * page, 4094, 4095] {
+            // On the longest page every address is inside.
+            if column < page || column > 4095 {
+                continue;
+            }
+            for (code, count) in [(0x03, 1), (0x0B, 2), (0x03, page + 1), (0x0B, 4200)] {
+                let [high, low] = (column as u16).to_be_bytes();
+                let log = begun(&[code, high, low, 0], count);
+                let next = 4096.min(column + count);
+                reads(geometry, idle(0x00), &log, &vec![0xFF; 4 + count], next);
+            }
+        }
+    }
+}
+
+#[test]
+fn a_cache_read_handed_in_goes_on() {
+    for geometry in single_pages() {
+        let page = geometry.cache_len();
+        for column in [0, page - 1, page, page + 1, 4095, 4096] {
+            let column = column.min(4096);
+            for (handed_in, count) in [(4, 1), (4, 3), (5, 1), (5, 3), (5, page + 2)] {
+                let next = if column < page {
+                    (column + count) % page
+                } else {
+                    4096.min(column + count)
+                };
+                let state = reading(handed_in, column as u16);
+                let out = answers(page, column, count);
+                reads(geometry, state, &[2, 0].repeat(count), &out, next);
+            }
+            // The idle byte moves nothing.
+            let idle_byte = reading(3, column as u16);
+            reads(geometry, idle_byte, &[2, 0], &[0xFF], column);
+        }
+    }
+}
+
+#[test]
+fn loads_do_not_go_round() {
+    for geometry in single_pages() {
+        let page = geometry.cache_len();
+        for (code, rest) in [(0x02, 0xFF), (0x84, 0x40)] {
+            let column = page - 1;
+            let [high, low] = (column as u16).to_be_bytes();
+            let load = [&[code, high, low, 0xA1], &vec![0xA2; page + 1][..]].concat();
+            let read = [&[0x03, high, low], &vec![0; page + 2][..]].concat();
+            let log = [transfer(&load), begun(&read, 0)].concat();
+            let case = Case {
+                state: idle(0x00),
+                cache: Fill::constant(page, 0x40),
+                ..Case::power_up(geometry, &log)
+            };
+            on_both(&case, |outcome| {
+                let mut cache = vec![rest; page];
+                cache[column] = 0xA1;
+                assert_eq!(outcome.buffers.cache, cache, "{code:02X}h, {geometry:?}");
+                let last = outcome.answer.written - (page + 1);
+                let read_out = &outcome.buffers.out[last..outcome.answer.written];
+                let expected = [&[0xA1][..], &cache].concat();
+                assert_eq!(read_out, expected, "{code:02X}h, {geometry:?}");
+            });
+            let not_ended = Case {
+                log: begun(&load, 0),
+                ..case
+            };
+            on_both(&not_ended, |outcome| {
+                let next = 4096.min(column + page + 2);
+                assert_eq!(usize::from(outcome.answer.state.column), next);
+            });
+        }
+    }
+}
+
+/// Every call of a transfer goes round as the run of its records does.
+#[test]
+fn calls_go_round() {
+    let geometry = Geometry::bench();
+    let part = geometry.into();
+    let di = [&[0x0B, 0x00, 0x12], &[0; 48][..]].concat();
+    let expected = [vec![0xFF; 4], answers(20, 18, 47)].concat();
+    let case = Case {
+        state: idle(0x00),
+        ..Case::power_up(geometry, &transfer(&di))
+    };
+
+    // In one call.
+    let (mut first, mut second) = (told_apart(&case), told_apart(&case));
+    let (mut memory, out) = first.lent();
+    let library = lent::transfer(&geometry, case.state, &di, &mut memory, out);
+    let (memory, out) = second.lent_to_paper();
+    let paper = paper::transfer(&part, case.state.into(), &di, memory, out).into();
+    assert_eq!(library, paper);
+    assert_eq!((library.refusal, library.written), (None, 51));
+    assert_eq!(first.out[..51], expected);
+    assert_eq!(first, second);
+
+    // Judged.
+    let (mut memory, out) = first.lent();
+    let (library, orderly) = lent::judge(&geometry, case.state, &case.log, &mut memory, out);
+    let (memory, out) = second.lent_to_paper();
+    let (paper, as_model) = paper::judge(&part, case.state.into(), &case.log, memory, out);
+    assert_eq!(library, paper.into());
+    assert!(orderly && as_model);
+    assert_eq!(first.out[..51], expected);
+    assert_eq!(first, second);
+
+    // In pieces that end at the page's end, before it and behind it; then byte by byte, with a look
+    // at each before it comes.
+    for room in [4, 5, 6, 7, 25, 26, 27, 46, 47, 50] {
+        let mut buffers = told_apart(&case);
+        let (mut memory, out) = buffers.lent();
+        let begun = lent::transfer(&geometry, case.state, &di, &mut memory, &mut out[..room]);
+        assert_eq!(begun.refusal, Some(Refusal::NoRoom));
+        assert_eq!(usize::from(begun.state.column), (18 + room - 4) % 20);
+        let rest = lent::shifts(
+            &geometry,
+            begun.state,
+            &di[room..],
+            &mut memory,
+            &mut out[room..],
+        );
+        assert_eq!(rest.refusal, None);
+        assert_eq!(out[..51], expected, "{room}");
+
+        out[room..].fill(0xFF);
+        let mut state = begun.state;
+        for (place, &byte) in di.iter().enumerate().skip(room) {
+            let model = paper::peek(&part, state.into(), memory.cache, byte);
+            assert_eq!(
+                lent::peek(&geometry, state, memory.cache),
+                Ok(expected[place])
+            );
+            assert_eq!(model, Ok(expected[place]));
+            state = lent::shift(&geometry, state, byte, &mut memory, &mut out[place..]).state;
+        }
+        assert_eq!(out[..51], expected, "{room}");
+        assert_eq!(state, rest.state);
     }
 }
 

@@ -1,6 +1,7 @@
 //! An independent model, written from the papers and the project's decisions alone: the device as
-//! document 01 has it, changed by document 02's item 2 (a reset takes time), and beside the device
-//! document 02's parameter page, keeper of the bus and card.
+//! document 01 has it, changed by document 02's items 2 (a reset takes time) and 6 (a cache read goes
+//! round at the page's end), and beside the device document 02's parameter page, keeper of the bus
+//! and card.
 //!
 //! It shares no code and no type with the proved library. The tests compare the two on random
 //! contents of all their inputs, sound and not, and the benchmark takes this model as what a good

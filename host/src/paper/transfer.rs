@@ -1,5 +1,5 @@
 //! Transfers: chip select and the bytes shifted, what each answers and what it does to the cache
-//! register.
+//! register; document 02, item 6: a cache read goes round at the page's end.
 
 use super::instructions::Instruction;
 use super::run::Device;
@@ -99,12 +99,16 @@ impl Device<'_> {
         }
     }
 
-    /// A byte of 03h or 0Bh after the first: two of column, one idle, then the answers.
+    /// A byte of 03h or 0Bh after the first: two of column, one idle, then the answers. Behind the
+    /// page's last column comes column 0; a read that is past the page stays there.
     fn shift_read(&mut self, count: u8, byte: u8) -> u8 {
         match count {
             2 => self.take_column(byte),
             4.. => {
                 let column = self.machine.transfer.step();
+                if column == self.array.page - 1 {
+                    self.machine.transfer.column = 0;
+                }
                 return self.memory.cache.get(column).copied().unwrap_or(BLANK);
             }
             _ => {}
@@ -112,7 +116,7 @@ impl Device<'_> {
         BLANK
     }
 
-    /// A byte of 02h or 84h after the first: two of column, then data.
+    /// A byte of 02h or 84h after the first: two of column, then data, which is dropped past the page.
     fn shift_load(&mut self, load: Instruction, count: u8, byte: u8) {
         match count {
             2 => {

@@ -46,9 +46,23 @@ impl Generator {
         self.with_log(case)
     }
 
-    /// The case with a log and room for its output.
+    /// The case with a log and room for its output. A cache read that is under way mostly goes on.
     fn with_log(&mut self, mut case: Case) -> Case {
-        case.log = self.log(&case.geometry);
+        let State {
+            selected,
+            instruction,
+            count,
+            column,
+            ..
+        } = case.state;
+        if (selected, instruction) == (1, 0x03) && count >= 4 && self.rng.percent(70) {
+            let bytes = answers(&mut self.rng, &case.geometry, column);
+            case.log = (0..bytes).flat_map(|_| [2, self.rng.byte()]).collect();
+            if self.rng.percent(80) {
+                case.log.push(3);
+            }
+        }
+        case.log.extend(self.log(&case.geometry));
         case.room = self.room(&case.log);
         case
     }
@@ -202,7 +216,8 @@ impl Generator {
         }
     }
 
-    /// Any sound state: idle or not, between two bytes of a transfer or not.
+    /// Any sound state: idle or not, between two bytes of a transfer or not, now and then two answers
+    /// of a cache read.
     pub fn sound_state(&mut self, geometry: &Geometry) -> State {
         let rng = &mut self.rng;
         let mut state = State {
@@ -228,6 +243,14 @@ impl Generator {
         if rng.percent(40) {
             let job = rng.within(1, 4) as u8;
             begin_operation(rng, geometry, &mut state, job);
+        } else if rng.percent(15) {
+            state.selected = 1;
+            state.count = rng.within(4, 5) as u8;
+            state.instruction = 0x03;
+            if rng.percent(50) {
+                let page = sizes(geometry).0.min(4096) as u16;
+                state.column = rng.pick(&[page - 1, page, 4096]);
+            }
         }
         if let 0x13 | 0x10 | 0xD8 = state.instruction {
             let [_, high, low] = row_bytes(rng, geometry);
@@ -340,15 +363,61 @@ fn sizes(geometry: &Geometry) -> (usize, usize, usize) {
 fn column(rng: &mut Rng, geometry: &Geometry) -> u16 {
     let (page, ..) = sizes(geometry);
     let page = page.min(4096);
-    match rng.below(8) {
+    let column = match rng.below(12) {
         0 => 0,
-        1 => (page - 1) as u16,
-        2 => page as u16,
-        3 => (page + 1).min(4096) as u16,
-        4 => rng.within(4090, 4096) as u16,
-        5 => rng.below(4097) as u16,
-        _ => rng.below(page) as u16,
+        1 => page.saturating_sub(2),
+        2 | 3 => page - 1,
+        4 => page,
+        5 => page + 1,
+        6 => rng.within(4090, 4095),
+        7 => 4096,
+        8 => rng.below(4097),
+        _ => rng.below(page),
+    };
+    column.min(4096) as u16
+}
+
+/// The two bytes of a column, the top four bits as they come.
+fn column_bytes(rng: &mut Rng, geometry: &Geometry) -> [u8; 2] {
+    let column = column(rng, geometry).min(4095);
+    let [high, low] = column.to_be_bytes();
+    let ignored = if rng.percent(20) {
+        rng.byte() & 0xF0
+    } else {
+        0
+    };
+    [high | ignored, low]
+}
+
+/// How many bytes a cache read answers from a column on: a few, the rest of the page or just more, a
+/// page and more, more than two pages.
+fn answers(rng: &mut Rng, geometry: &Geometry, column: u16) -> usize {
+    let (page, ..) = sizes(geometry);
+    let page = page.min(4096);
+    let left = page.saturating_sub(column.into());
+    let far = match rng.below(20) {
+        0 | 1 => left,
+        2..=4 => left + 1,
+        5 | 6 => left + rng.within(2, 5),
+        7 => page + 2,
+        8 | 9 => 2 * page + rng.below(page + 2),
+        _ => return rng.below(10),
+    };
+    // Long logs are few.
+    if far > 300 && rng.percent(50) {
+        return rng.below(10);
     }
+    far
+}
+
+/// The bytes of a cache read.
+pub fn cache_read(rng: &mut Rng, geometry: &Geometry) -> Vec<u8> {
+    let [high, low] = column_bytes(rng, geometry);
+    let column = u16::from_be_bytes([high & 0x0F, low]);
+    let more = 1 + answers(rng, geometry, column);
+    let mut bytes = vec![rng.pick(&[0x03, 0x0B]), high, low];
+    bytes.extend((0..more).map(|_| rng.byte()));
+    bytes
 }
 
 /// The three bytes of a row: mostly inside the array, and often one of a few, so that pages meet
@@ -452,7 +521,7 @@ impl Script<'_> {
             9 => self.read(),
             10 => self.poll(),
             11 => self.unlock(),
-            12 => self.load(),
+            12 => self.load_and_look(),
             13 => self.read_cache(),
             14 | 15 => self.work(),
             16 => self.aside(),
@@ -484,7 +553,7 @@ impl Script<'_> {
         match code {
             0x0F | 0x1F => bytes.push(self.address()),
             0x13 | 0x10 | 0xD8 => bytes.extend(row_bytes(self.rng, self.geometry)),
-            0x03 | 0x0B | 0x02 | 0x84 => bytes.extend(self.column()),
+            0x03 | 0x0B | 0x02 | 0x84 => bytes.extend(column_bytes(self.rng, self.geometry)),
             _ => {}
         }
         let more = match (code, self.rng.below(10)) {
@@ -548,21 +617,22 @@ impl Script<'_> {
             _ => self.rng.below(12),
         };
         let mut bytes = vec![self.rng.pick(&[0x02, 0x84])];
-        bytes.extend(self.column());
+        bytes.extend(column_bytes(self.rng, self.geometry));
         bytes.extend((0..count).map(|_| self.rng.byte()));
         self.transfer(&bytes);
     }
 
     fn read_cache(&mut self) {
-        let (page, ..) = sizes(self.geometry);
-        let count = match self.rng.below(8) {
-            0 => page + 2,
-            _ => self.rng.below(10),
-        };
-        let mut bytes = vec![self.rng.pick(&[0x03, 0x0B])];
-        bytes.extend(self.column());
-        bytes.extend((0..=count).map(|_| self.rng.byte()));
+        let bytes = cache_read(self.rng, self.geometry);
         self.transfer(&bytes);
+    }
+
+    /// A load, and mostly a look at what it left.
+    fn load_and_look(&mut self) {
+        self.load();
+        if self.rng.percent(70) {
+            self.read_cache();
+        }
     }
 
     /// A reset, now and then one more, and what comes behind them.
@@ -683,17 +753,6 @@ impl Script<'_> {
                 return;
             }
         }
-    }
-
-    fn column(&mut self) -> [u8; 2] {
-        let column = column(self.rng, self.geometry).min(4095);
-        let [high, low] = column.to_be_bytes();
-        let ignored = if self.rng.percent(20) {
-            self.rng.byte() & 0xF0
-        } else {
-            0
-        };
-        [high | ignored, low]
     }
 
     fn address(&mut self) -> u8 {

@@ -8,15 +8,13 @@ use sleetanvil::raw::{self, RawAnswer};
 use sleetanvil::{lent, paper, Answer, Geometry, Log, State};
 
 use super::naive::Naive;
-use super::{best, check, idle, load, mixed, Run, Task, Times};
+use super::{best, check, idle, load, mixed, read_out, Run, Task, Times, TIMES_ROUND};
 
 const POLL: [u8; 3] = [0x0F, 0xC0, 0x00];
 
 /// A row for each kind of call.
 pub fn compare(geometry: &Geometry, buffers: &mut Buffers) {
     let page = geometry.cache_len();
-    let mut read_out = vec![0x03, 0x00, 0x00, 0x00];
-    read_out.resize(4 + page, 0x00);
     let load_in = load(0x84, &vec![0x5A; page]);
     let mut naive = naive(geometry);
 
@@ -27,7 +25,11 @@ pub fn compare(geometry: &Geometry, buffers: &mut Buffers) {
     );
     for (name, di) in [
         ("one transfer per call, a poll", &POLL[..]),
-        ("one transfer per call, a page read out", &read_out),
+        ("one transfer per call, a page read out", &read_out(page)),
+        (
+            "one transfer per call, 4 pages read out",
+            &read_out(TIMES_ROUND * page),
+        ),
         ("one transfer per call, a page loaded", &load_in),
     ] {
         check_transfer(geometry, buffers, &mut naive, di);

@@ -32,6 +32,8 @@ const RESET_UNITS: usize = 8;
 /// The block it uses, and the block whose pages the others take in turn.
 const MIXED_BLOCK: usize = 100;
 const BLOCK: usize = 200;
+/// How often the page is read out in a cache read that goes round.
+const TIMES_ROUND: usize = 4;
 
 fn main() {
     println!("The best of {ROUNDS} rounds.\n");
@@ -165,6 +167,7 @@ fn tasks(geometry: &Geometry) -> Vec<Task> {
     let block = page * geometry.pages as usize;
     vec![
         bus_read(page),
+        bus_read_round(page),
         bus_load(page),
         work("page read", 1, page, geometry),
         work("program", 2, page, geometry),
@@ -217,11 +220,29 @@ fn idle() -> State {
 
 /// A transfer that reads a page out of the cache register.
 fn bus_read(page: usize) -> Task {
-    let mut bytes = vec![0x03, 0x00, 0x00, 0x00];
-    bytes.resize(4 + page, 0x00);
+    let bytes = read_out(page);
     on_bus("cache read on the bus", &bytes, move |_, buffers| {
         buffers.out[..page].copy_from_slice(&buffers.cache);
     })
+}
+
+/// A transfer that reads on past the page's end, and so reads the page out several times.
+fn bus_read_round(page: usize) -> Task {
+    let bytes = read_out(TIMES_ROUND * page);
+    let name = "cache read on the bus, 4 pages in one transfer";
+    on_bus(name, &bytes, move |_, buffers| {
+        let out = &mut buffers.out[..TIMES_ROUND * page];
+        for out in out.chunks_exact_mut(page) {
+            out.copy_from_slice(&buffers.cache);
+        }
+    })
+}
+
+/// The bytes of a cache read from column 0 that answers so many.
+fn read_out(answers: usize) -> Vec<u8> {
+    let mut bytes = vec![0x03, 0x00, 0x00, 0x00];
+    bytes.resize(4 + answers, 0x00);
+    bytes
 }
 
 /// A transfer that loads a page into the cache register.
@@ -337,8 +358,7 @@ fn mixed(geometry: &Geometry) -> Task {
         }
         driver.begin(0x10, first + place, page);
     }
-    let mut read_out = vec![0x03, 0x00, 0x00, 0x00];
-    read_out.resize(4 + page, 0x00);
+    let read_out = read_out(page);
     for place in 0..MIXED_PAGES {
         driver.begin(0x13, first + place, page);
         driver.transfer(&read_out);

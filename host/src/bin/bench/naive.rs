@@ -68,6 +68,9 @@ impl Naive {
                 if count >= 4 {
                     let column = self.column;
                     self.column += 1;
+                    if self.column == self.data {
+                        self.column = 0;
+                    }
                     return self.cache.get(column).copied().unwrap_or(0xFF);
                 }
                 0xFF
