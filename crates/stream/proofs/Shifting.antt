@@ -1,22 +1,23 @@
 -- A stream of shifts: what one shift does, and what the loops over a stream hold.
-use mathlib.Core.Bool.{Bool, true, false, _&&_, _||_}
+use mathlib.Core.Bool.{Bool, true, false, cond, _&&_, _||_}
 use mathlib.Core.List.{List}
 use mathlib.Core.Path.{_≡_, refl, sym, _∙_, subst}
 use Prim.Native.Nat.{ℕ, _+_, _-_, _*_, _/_, _≤_, _<_, min}
 use native.Mathlib.Omega.{arith}
-use lib.Dec.{T, eqb}
+use lib.Dec.{T, ltb, leb, eqb}
 use lib.ListN.{length, getD, set, length-set}
-use borrow.Author.Tests.{eqb-true}
+use borrow.Author.Tests.{eqb-true, eqb-false, ltb-true, leb-true}
 use Rattle.part.specs.Part.{page}
 use Rattle.part.specs.declared.Column.{Column}
 use Rattle.part.specs.declared.Geometry.{Geometry}
 use Rattle.part.proofs.Choice.{T-true, true-T, and-l, and-r}
 use Rattle.transfer.specs.Transfer.{byteOf, is, next, nextRead, heard, shiftedIn, cacheByte, cached}
 use Rattle.transfer.specs.declared.Bus.{Bus}
+use Rattle.transfer.proofs.Bytes.{getD-any}
 use Rattle.device.specs.Machine.{Machine, onCache}
 use Rattle.device.specs.Instructions.{answer, shifts}
 use Rattle.device.specs.declared.State.{State}
-use Rattle.stream.specs.Streams.{Past, loading, streams, atColumn, ShiftAt, byteIn, Shifted, none, more, Follows, noShift, Streamed}
+use Rattle.stream.specs.Streams.{Past, InPage, inPage, loading, streams, atColumn, ShiftAt, byteIn, Shifted, none, more, Follows, noShift, Streamed}
 use Rattle.stream.specs.declared.Stream.{Stream}
 
 -- ---- a bus in a stream
@@ -58,6 +59,11 @@ module _ (g : Geometry) (s : State) (p : Past (s .bus)) (c : Column) (cache : Li
       let e : byteOf (s .bus .transfer .instruction) ≡ 0x03 = eqb-true _ _ q in
       ((λ m. rw (p .listens, p .counted, e)), rw (p .listens, p .counted, e))
 
+  -- at a column of the page it is a byte of the page
+  pub round-moves : is (s .bus .transfer) 0x03 ≡ true → page g ≡ length cache → c .0 < length cache
+      → Moves g s c (nextRead (length cache) c) cache cache b (getD cache (c .0) 0)
+  round-moves q e h = rw (← e, getD-any cache (c .0) 0 0xFF h) (read-moves q)
+
   -- 02h
   load-2 : is (s .bus .transfer) 0x02 ≡ true → Moves g s c (next c) cache (set cache (c .0) b) b 0xFF
   unfolding shifts shiftedIn cached answer
@@ -75,6 +81,26 @@ module _ (g : Geometry) (s : State) (p : Past (s .bus)) (c : Column) (cache : Li
   -- 02h and 84h store at the column
   pub load-moves : loading (s .bus .transfer) ≡ true → Moves g s c (next c) cache (set cache (c .0) b) b 0xFF
   load-moves q = either (is (s .bus .transfer) 0x02) (is (s .bus .transfer) 0x84) q load-2 load-84
+
+-- the next column of a read in the page is in it
+pub next-inside : (p : ℕ) (c : Column) → c .0 < p → nextRead p c .0 < p
+next-inside p c h = go (eqb (c .0 + 1) p) refl
+  where
+    go : (b : Bool) → eqb (c .0 + 1) p ≡ b → cond b (record { 0 = 0 }) (next c) .0 < p
+    go true e = omega (arith, h)
+    go false e = omega (arith, h, eqb-false (c .0 + 1) p e)
+
+-- what the test of a column tells
+pub in-page : (g : Geometry) (cache : List ℕ) (c : Column) → inPage g cache c ≡ true → InPage g cache c
+in-page g cache c e =
+    let long = eqb (length cache) (page g) in
+    let small = leb (page g) 4096 in
+    let both : T (long && small) = and-l (long && small) (ltb (c .0) (page g)) (true-T _ e) in
+    record {
+      below = ltb-true _ _ (T-true _ (and-r (long && small) (ltb (c .0) (page g)) (true-T _ e)));
+      long = eqb-true _ _ (T-true _ (and-l long small both));
+      small = leb-true _ _ (T-true _ (and-r long small both));
+    }
 
 -- ---- the loops
 

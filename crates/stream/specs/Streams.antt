@@ -4,8 +4,9 @@ use mathlib.Core.Bool.{Bool, true, false, _&&_, _||_}
 use mathlib.Core.List.{List}
 use mathlib.Core.Path.{_≡_}
 use Prim.Native.Nat.{ℕ, _+_, _*_, _≤_, _<_}
-use lib.Dec.{eqb}
+use lib.Dec.{ltb, leb, eqb}
 use lib.ListN.{length, getD, set}
+use Rattle.part.specs.Part.{page}
 use Rattle.part.specs.declared.Column.{Column}
 use Rattle.part.specs.declared.Geometry.{Geometry}
 use Rattle.transfer.specs.Transfer.{is, withTransfer, heard}
@@ -30,6 +31,16 @@ loading t = is t 0x02 || is t 0x84
 -- a bus in a stream: the fifth byte of its transfer has come, and it reads or loads the cache register
 abbrev pub streams : Bus → Bool
 streams x = heard x && eqb (x .transfer .count) 5 && (is (x .transfer) 0x03 || loading (x .transfer))
+
+-- the column is in the page, and the cache register as long as a page may be: so it is in every run of a cache read from a column below P
+pub record InPage (g : Geometry) (cache : List ℕ) (c : Column) : Type 0 where
+  pub below : c .0 < page g
+  pub long : length cache ≡ page g
+  pub small : page g ≤ 4096
+
+-- the same as a test
+abbrev pub inPage : Geometry → List ℕ → Column → Bool
+inPage g cache c = eqb (length cache) (page g) && leb (page g) 4096 && ltb (c .0) (page g)
 
 -- the state with another next column
 abbrev pub atColumn : Column → State → State

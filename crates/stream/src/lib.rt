@@ -2,11 +2,11 @@
 // "Instructions".
 ghost use mathlib.Core.Bool.{true};
 ghost use mathlib.Core.Path.{_≡_};
-ghost use Prim.Native.Nat.{_/_, _≤_, min};
+ghost use Prim.Native.Nat.{_/_, _≤_, _<_, min};
 ghost use lib.ListN.{length};
-ghost use Rattle.transfer.specs.Transfer.{is};
+ghost use Rattle.transfer.specs.Transfer.{is, nextRead};
 ghost use Rattle.device.specs.Machine.{Machine, onCache};
-ghost use Rattle.stream.specs.Streams.{Past, loading, streams, atColumn, Shifted, Follows, noShift, Streamed};
+ghost use Rattle.stream.specs.Streams.{Past, InPage, inPage, loading, streams, atColumn, Shifted, Follows, noShift, Streamed};
 use device::State;
 use part::Column;
 use part::Geometry;
@@ -65,8 +65,66 @@ pub fn at_column(c: Column, s: State) -> State
     }
 }
 
-// The shifts of a cache read, from a place on.
-fn reads(
+// Whether a column is in the page, and the cache register as long as a page may be.
+fn in_page(g: Geometry, cache: &[u8], c: Column) -> bool
+    ensures { λ r. ⌜ r ≡ inPage g (now (cache .entry)) c ⌝ }
+{
+    let p = g.page();
+    if cache.len() != p {
+        return false;
+    }
+    if 4096 < p {
+        return false;
+    }
+    part::wide_short(c.0) < p
+}
+
+// The next column of a read in the page.
+fn next_in_page(page: usize, c: Column) -> Column
+    requires { ⌜ (c .0 < page) × (page ≤ 4096) ⌝ }
+    ensures { λ r. ⌜ r ≡ nextRead page c ⌝ }
+{
+    if part::wide_short(c.0) + 1 == page {
+        return Column(0);
+    }
+    Column(c.0 + 1)
+}
+
+// The shifts of a cache read in the page, from a place on: they go round it.
+fn reads_round(
+    g: Geometry,
+    s: State,
+    log: &[u8],
+    at: usize,
+    cache: &[u8],
+    out: &mut [u8],
+    written: usize,
+) -> Stream
+    requires { ⌜ (Past (s .bus)) × (is (s .bus .transfer) 0x03 ≡ true) × (at ≤ length (now log)) × (written ≤ length (now out)) × (InPage g (now cache) (s .bus .transfer .column)) ⌝ }
+    ensures { λ r. ⌜ (((m : Machine) → Shifted g (now (log .entry)) at written (onCache s (now (cache .entry)) m) (now (out .entry)) (r .count) (onCache (r .state) (now (cache .entry)) m) (now (out .exit)))) × (Follows (now (log .entry)) at written (now (out .entry)) (r .count) → ⊥) ⌝ }
+{
+    let n = most(log.len() - at, out.len() - written);
+    let mut c = s.bus.transfer.column;
+    let mut i = 0;
+    while i < n {
+        if log[at + 2 * i] != 2 {
+            return Stream {
+                state: at_column(c, s),
+                count: i,
+            };
+        }
+        out[written + i] = cache[part::wide_short(c.0)];
+        c = next_in_page(cache.len(), c);
+        i += 1;
+    }
+    Stream {
+        state: at_column(c, s),
+        count: i,
+    }
+}
+
+// The same wherever the column is.
+fn reads_on(
     g: Geometry,
     s: State,
     log: &[u8],
@@ -97,6 +155,26 @@ fn reads(
         state: at_column(c, s),
         count: i,
     }
+}
+
+// The shifts of a cache read, from a place on.
+fn reads(
+    g: Geometry,
+    s: State,
+    log: &[u8],
+    at: usize,
+    cache: &[u8],
+    out: &mut [u8],
+    written: usize,
+) -> Stream
+    requires { ⌜ (Past (s .bus)) × (is (s .bus .transfer) 0x03 ≡ true) × (at ≤ length (now log)) × (written ≤ length (now out)) ⌝ }
+    ensures { λ r. ⌜ (((m : Machine) → Shifted g (now (log .entry)) at written (onCache s (now (cache .entry)) m) (now (out .entry)) (r .count) (onCache (r .state) (now (cache .entry)) m) (now (out .exit)))) × (Follows (now (log .entry)) at written (now (out .entry)) (r .count) → ⊥) ⌝ }
+{
+    let t = s.bus.transfer;
+    if in_page(g, cache, t.column) {
+        return reads_round(g, s, log, at, cache, out, written);
+    }
+    reads_on(g, s, log, at, cache, out, written)
 }
 
 // The shifts of a load, from a place on.

@@ -1,115 +1,42 @@
--- `reads`: after i shifts they are done, the column moved on. The measure is the shifts left.
-use Prim.Native.Nat.{ℕ, _-_}
-use mathlib.Core.Path.{_≡_, refl, sym}
+-- The shifts of a cache read: those of one in the page, or those of any.
+use mathlib.Core.Path.{sym, _∙_}
 use denote.Ref.{now}
-use native.Mathlib.Omega.{arith}
 use borrow.Author.Needs.{needs}
-use Rattle.part.specs.Part.{page}
-use Rattle.part.specs.declared.Geometry.{Geometry}
-use Rattle.stream.proofs.Shifting.{Streaming, before-first, moved, read-moves, none-left, no-shift}
+use Rattle.stream.proofs.Shifting.{in-page}
 use Rattle.stream.proofs.reads.Statement.{statement}
 use Rattle.stream.proofs.reads.Tie as tie
 
--- on each part whose page is as long as the loop takes it to be
-abbrev On : ℕ → Geometry → Type 0
-On p g = page g ≡ p
+in-page-requires : tie.Need-in-page-requires
+in-page-requires c κs = search needs
 
-abbrev Inv-loop : tie.InvT-loop
-Inv-loop s log at cache out₀ written n p c₀ i₀ out c i = Streaming (On p) s log at written n cache out₀ cache out c i
+reads-round-requires : tie.Need-reads-round-requires
+reads-round-requires c κs =
+    let p = c .before .before .before .before .before .before .before .pre in
+    (p .0, p .1, p .2, p .3, in-page (c .before .before .before .before .before .before .before .args .g) (now (c .before .before .before .before .before .before .before .args .cache)) (c .before .before .before .before .before .before .before .args .s .bus .transfer .column) (sym (c .before .before .in-page .ensures) ∙ c .before .if1 .taken))
 
-abbrev μ-loop : tie.MeasureT-loop
-μ-loop s log at cache out₀ written n p c₀ i₀ out c i = n - i
+same-length : tie.Need-same-length
+same-length c = search needs
 
-sub-most : tie.Need-sub-most Inv-loop μ-loop
-sub-most c = search needs
+returns : tie.Need-returns
+returns c = search needs
 
-sub-most-2 : tie.Need-sub-most-2 Inv-loop μ-loop
-sub-most-2 c = search needs
+reads-on-requires : tie.Need-reads-on-requires
+reads-on-requires c κs = search needs
 
-most-requires : tie.Need-most-requires Inv-loop μ-loop
-most-requires c κs = search needs
+same-length-2 : tie.Need-same-length-2
+same-length-2 c = search needs
 
-page-requires : tie.Need-page-requires Inv-loop μ-loop
-page-requires c κs = search needs
-
-loop-holds : tie.Need-loop-holds Inv-loop μ-loop
-loop-holds c = before-first (On (c .before .page .result)) (c .before .before .before .before .before .before .args .s) (now (c .before .before .before .before .before .before .args .log)) (c .before .before .before .before .before .before .args .at) (c .before .before .before .before .before .before .args .written) (c .before .before .most .result) (now (c .before .before .before .before .before .before .args .cache)) (now (c .before .before .before .before .before .before .args .out)) (record { inside = c .before .before .before .before .before .before .pre .2; before = c .before .before .before .before .before .before .pre .3; most = c .before .before .most .ensures })
-
-mul-if1 : tie.Need-mul-if1 Inv-loop μ-loop
-mul-if1 c = omega (arith, c .before .loop .inv .roomy .inside, c .before .loop .inv .roomy .before, c .before .loop .inv .roomy .most, c .before .loop .inv .out-keeps)
-
-add-if1 : tie.Need-add-if1 Inv-loop μ-loop
-add-if1 c = omega (arith, c .before .loop .inv .roomy .inside, c .before .loop .inv .roomy .before, c .before .loop .inv .roomy .most, c .before .loop .inv .out-keeps)
-
-shared-slice-read-if1 : tie.Need-shared-slice-read-if1 Inv-loop μ-loop
-shared-slice-read-if1 c = omega (arith, c .before .before .loop .inv .roomy .inside, c .before .before .loop .inv .roomy .before, c .before .before .loop .inv .roomy .most, c .before .before .loop .inv .out-keeps)
-
-at-column-requires : tie.Need-at-column-requires Inv-loop μ-loop
-at-column-requires c κs = search needs
-
-same-length : tie.Need-same-length Inv-loop μ-loop
-same-length c = c .before .before .before .before .loop .inv .out-keeps
-
-returns : tie.Need-returns Inv-loop μ-loop
-returns c = ((λ m. rw (c .at-column .ensures) (c .before .before .before .before .loop .inv .done (c .before .before .before .before .before .before .before .before .before .before .before .args .g) (sym (c .before .before .before .before .before .before .page .ensures)) m)), no-shift (now (c .before .before .before .before .before .before .before .before .before .before .before .args .log)) (c .before .before .before .before .before .before .before .before .before .before .before .args .at) (c .before .before .before .before .before .before .before .before .before .before .before .args .written) (now (c .before .before .before .before .before .before .before .before .before .before .before .args .out)) (c .before .before .before .before .loop .i) _ refl (λ e. omega (arith, e, c .before .if1 .taken)))
-
-byte-at-requires : tie.Need-byte-at-requires Inv-loop μ-loop
-byte-at-requires c κs = search needs
-
-add-out : tie.Need-add-out Inv-loop μ-loop
-add-out c = omega (arith, c .before .before .before .before .loop .inv .roomy .inside, c .before .before .before .before .loop .inv .roomy .before, c .before .before .before .before .loop .inv .roomy .most, c .before .before .before .before .loop .inv .out-keeps)
-
-slice-write-out : tie.Need-slice-write-out Inv-loop μ-loop
-slice-write-out c = omega (arith, c .before .before .before .before .loop .inv .roomy .inside, c .before .before .before .before .loop .inv .roomy .before, c .before .before .before .before .loop .inv .roomy .most, c .before .before .before .before .loop .inv .out-keeps)
-
-next-read-requires : tie.Need-next-read-requires Inv-loop μ-loop
-next-read-requires c κs = search needs
-
-add-i : tie.Need-add-i Inv-loop μ-loop
-add-i c = search needs
-
-loop-less : tie.Need-loop-less Inv-loop μ-loop
-loop-less c = search needs
-
-loop-again : tie.Need-loop-again Inv-loop μ-loop
-loop-again c =
-    rw (c .next-read .ensures, c .before .byte-at .ensures)
-    (moved (c .before .before .before .before .before .loop .inv) (c .before .before .before .before .loop-test .taken) (omega (arith, c .before .before .if1 .left)) refl
-    (λ g o. rw (← o) (read-moves g (c .before .before .before .before .before .before .before .before .before .before .before .before .args .s) (c .before .before .before .before .before .before .before .before .before .before .before .before .pre .0) (c .before .before .before .before .before .loop .c) (now (c .before .before .before .before .before .before .before .before .before .before .before .before .args .cache)) _ (c .before .before .before .before .before .before .before .before .before .before .before .before .pre .1))))
-
-at-column-requires-2 : tie.Need-at-column-requires-2 Inv-loop μ-loop
-at-column-requires-2 c κs = search needs
-
-same-length-2 : tie.Need-same-length-2 Inv-loop μ-loop
-same-length-2 c = c .before .before .loop .inv .out-keeps
-
-returns-2 : tie.Need-returns-2 Inv-loop μ-loop
-returns-2 c = ((λ m. rw (c .at-column2 .ensures) (c .before .before .loop .inv .done (c .before .before .before .before .before .before .before .before .before .args .g) (sym (c .before .before .before .before .page .ensures)) m)), none-left _ _ _ _ _ _ (c .before .before .loop .inv .roomy) (omega (arith, c .before .loop-test .left)))
+returns-2 : tie.Need-returns-2
+returns-2 c = search needs
 
 pub reads-spec : {M : Type 1} → statement M
 reads-spec =
     tie.close
     (tie.spec
-    Inv-loop
-    μ-loop
-    sub-most
-    sub-most-2
-    most-requires
-    page-requires
-    loop-holds
-    mul-if1
-    add-if1
-    shared-slice-read-if1
-    at-column-requires
+    in-page-requires
+    reads-round-requires
     same-length
     returns
-    byte-at-requires
-    add-out
-    slice-write-out
-    next-read-requires
-    add-i
-    loop-less
-    loop-again
-    at-column-requires-2
+    reads-on-requires
     same-length-2
     returns-2)
