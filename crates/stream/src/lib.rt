@@ -105,21 +105,21 @@ fn reads_round(
 {
     let n = most(log.len() - at, out.len() - written);
     let mut c = s.bus.transfer.column;
-    let mut i = 0;
-    while i < n {
-        if log[at + 2 * i] != 2 {
+    let mut k = 0;
+    while k < n {
+        if log[at + 2 * k] != 2 {
             return Stream {
                 state: at_column(c, s),
-                count: i,
+                count: k,
             };
         }
-        out[written + i] = cache[part::wide_short(c.0)];
+        out[written + k] = cache[part::wide_short(c.0)];
         c = next_in_page(cache.len(), c);
-        i += 1;
+        k += 1;
     }
     Stream {
         state: at_column(c, s),
-        count: i,
+        count: k,
     }
 }
 

@@ -1,4 +1,4 @@
--- `reads_round`: after i shifts they are done, the column moved on, and still in the page. The measure is the shifts left.
+-- `reads_round`: after k shifts they are done, the column moved on, and still in the page. The measure is the shifts left.
 use Prim.Native.Nat.{ℕ, _-_, _≤_, _<_}
 use mathlib.Core.List.{List}
 use mathlib.Core.Path.{_≡_, refl, sym}
@@ -17,10 +17,10 @@ abbrev On : List ℕ → Geometry → Type 0
 On cache g = page g ≡ length cache
 
 abbrev Inv-loop : tie.InvT-loop
-Inv-loop s log at cache out₀ written n c₀ i₀ out c i = Streaming (On cache) s log at written n cache out₀ cache out c i × (c .0 < length cache) × (length cache ≤ 4096)
+Inv-loop s log at cache out₀ written n c₀ k₀ out c k = Streaming (On cache) s log at written n cache out₀ cache out c k × (c .0 < length cache) × (length cache ≤ 4096)
 
 abbrev μ-loop : tie.MeasureT-loop
-μ-loop s log at cache out₀ written n c₀ i₀ out c i = n - i
+μ-loop s log at cache out₀ written n c₀ k₀ out c k = n - k
 
 sub-most : tie.Need-sub-most Inv-loop μ-loop
 sub-most c = search needs
@@ -52,7 +52,7 @@ same-length : tie.Need-same-length Inv-loop μ-loop
 same-length c = c .before .before .before .before .loop .inv .0 .out-keeps
 
 returns : tie.Need-returns Inv-loop μ-loop
-returns c = ((λ m. rw (c .at-column .ensures) (c .before .before .before .before .loop .inv .0 .done (c .before .before .before .before .before .before .before .before .before .before .args .g) (sym (c .before .before .before .before .before .before .before .before .before .before .pre .4 .long)) m)), no-shift (now (c .before .before .before .before .before .before .before .before .before .before .args .log)) (c .before .before .before .before .before .before .before .before .before .before .args .at) (c .before .before .before .before .before .before .before .before .before .before .args .written) (now (c .before .before .before .before .before .before .before .before .before .before .args .out)) (c .before .before .before .before .loop .i) _ refl (λ e. omega (arith, e, c .before .if1 .taken)))
+returns c = ((λ m. rw (c .at-column .ensures) (c .before .before .before .before .loop .inv .0 .done (c .before .before .before .before .before .before .before .before .before .before .args .g) (sym (c .before .before .before .before .before .before .before .before .before .before .pre .4 .long)) m)), no-shift (now (c .before .before .before .before .before .before .before .before .before .before .args .log)) (c .before .before .before .before .before .before .before .before .before .before .args .at) (c .before .before .before .before .before .before .before .before .before .before .args .written) (now (c .before .before .before .before .before .before .before .before .before .before .args .out)) (c .before .before .before .before .loop .k) _ refl (λ e. omega (arith, e, c .before .if1 .taken)))
 
 wide-short-requires : tie.Need-wide-short-requires Inv-loop μ-loop
 wide-short-requires c κs = search needs
@@ -69,8 +69,8 @@ slice-write-out c = omega (arith, c .before .before .before .before .before .loo
 next-in-page-requires : tie.Need-next-in-page-requires Inv-loop μ-loop
 next-in-page-requires c κs = (c .before .before .before .before .before .loop .inv .1, c .before .before .before .before .before .loop .inv .2)
 
-add-i : tie.Need-add-i Inv-loop μ-loop
-add-i c = search needs
+add-k : tie.Need-add-k Inv-loop μ-loop
+add-k c = search needs
 
 loop-less : tie.Need-loop-less Inv-loop μ-loop
 loop-less c = search needs
@@ -114,7 +114,7 @@ reads-round-spec =
     add-out
     slice-write-out
     next-in-page-requires
-    add-i
+    add-k
     loop-less
     loop-again
     at-column-requires-2
