@@ -25,7 +25,7 @@ use Rattle.device.specs.Work.{Array}
 use Rattle.device.specs.Instructions.{shifts, answer, fed, replies, effect, acted, deselects}
 use Rattle.device.specs.Step.{step, run}
 use Rattle.cases.specs.Cases.{countingFrom, send}
-use Rattle.cases.specs.RoundThePage.{inRead, answersFrom, columnThen, further, PageFits, ReadsRound, ReadsOnly, ReadSent, inLoad, LoadsDrop, roundCases, AllRoundCases}
+use Rattle.cases.specs.RoundThePage.{inRead, answerAt, answersFrom, columnThen, further, PageFits, ReadsRound, ReadsOnly, ReadSent, inLoad, LoadsDrop, roundCases, AllRoundCases}
 
 -- ---- columns
 
@@ -74,8 +74,7 @@ module _ (g : Geometry) (s : Sound g) where
       go false p = omega arith
 
   -- answer i from there is answer i + 1 from here
-  answer-on : (cache : List ℕ) (c i : ℕ)
-      → cond (ltb (columnThen g c 1) (page g)) (getD cache ((columnThen g c 1 + i) % page g) 0xFF) 0xFF ≡ cond (ltb c (page g)) (getD cache ((c + suc i) % page g) 0xFF) 0xFF
+  answer-on : (cache : List ℕ) (c i : ℕ) → answerAt g cache (columnThen g c 1) i ≡ answerAt g cache c (suc i)
   answer-on cache c i = rw (then-below c) (go (ltb c (page g)))
     where
       go : (a : Bool) → cond a (getD cache ((cond a ((c + 1) % page g) (min 4096 (c + 1)) + i) % page g) 0xFF) 0xFF ≡ cond a (getD cache ((c + suc i) % page g) 0xFF) 0xFF
@@ -83,14 +82,12 @@ module _ (g : Geometry) (s : Sound g) where
       go false = refl
 
   -- and so all of them
-  answers-on : (cache : List ℕ) (c n k : ℕ)
-      → map (λ i. cond (ltb c (page g)) (getD cache ((c + i) % page g) 0xFF) 0xFF) (countingFrom (suc k) n)
-      ≡ map (λ i. cond (ltb (columnThen g c 1) (page g)) (getD cache ((columnThen g c 1 + i) % page g) 0xFF) 0xFF) (countingFrom k n)
+  answers-on : (cache : List ℕ) (c n k : ℕ) → map (answerAt g cache c) (countingFrom (suc k) n) ≡ map (answerAt g cache (columnThen g c 1)) (countingFrom k n)
   answers-on cache c zero k = refl
   answers-on cache c (suc n) k = rw (← (answer-on cache c k), answers-on cache c n (suc k))
 
   -- the first of them is the cache byte there
-  answer-here : (cache : List ℕ) (c : ℕ) → length cache ≡ page g → getD cache c 0xFF ≡ cond (ltb c (page g)) (getD cache ((c + 0) % page g) 0xFF) 0xFF
+  answer-here : (cache : List ℕ) (c : ℕ) → length cache ≡ page g → getD cache c 0xFF ≡ answerAt g cache c 0
   answer-here cache c l = go (ltb c (page g)) refl
     where
       go : (a : Bool) → ltb c (page g) ≡ a → getD cache c 0xFF ≡ cond a (getD cache ((c + 0) % page g) 0xFF) 0xFF

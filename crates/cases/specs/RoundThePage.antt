@@ -25,9 +25,13 @@ use Rattle.cases.specs.Cases.{Case, _·_⇒_, countingFrom, idleAt, send
 abbrev pub inRead : Bus → Bool
 inRead x = heard x && is (x .transfer) 0x03 && leb 4 (x .transfer .count)
 
--- n answers from column c on: answer i is the cache byte at (c + i) mod P, or FFh if c is past the page
+-- answer i of a read from column c on: the cache byte at (c + i) mod P, or FFh if c is past the page
+abbrev pub answerAt : Geometry → List ℕ → ℕ → ℕ → ℕ
+answerAt g cache c i = if ltb c (page g) then getD cache ((c + i) % page g) 0xFF else 0xFF
+
+-- the first n of them
 abbrev pub answersFrom : Geometry → List ℕ → ℕ → ℕ → List ℕ
-answersFrom g cache c n = map (λ i. if ltb c (page g) then getD cache ((c + i) % page g) 0xFF else 0xFF) (countingFrom 0 n)
+answersFrom g cache c n = map (answerAt g cache c) (countingFrom 0 n)
 
 -- the column that comes next, after n answers from column c on
 abbrev pub columnThen : Geometry → ℕ → ℕ → ℕ
