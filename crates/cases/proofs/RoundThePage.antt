@@ -5,7 +5,7 @@ use mathlib.Core.Path.{_≡_, refl, sym, ap, _∙_}
 use Prim.Native.Nat.{ℕ, zero, suc, _+_, _-_, _%_, _≤_, _<_, min}
 use native.Mathlib.Nat.{mod-eq-of-lt, mod-self, mod-lt, mod-add-mod}
 use native.Mathlib.Omega.{arith}
-use lib.Dec.{T, ltb, leb, eqb}
+use lib.Dec.{ltb, leb, eqb}
 use lib.ListN.{length, getD, set, length-set, List·getD-eq-default}
 use lib.Seq.{getD-set-same, getD-set-other}
 use borrow.Author.Tests.{eqb-true, eqb-false, ltb-true, ltb-false, leb-true, lt-ltb, le-ltb, le-leb, lt-leb, ne-eqb}
@@ -15,16 +15,14 @@ use Rattle.part.specs.declared.Geometry.{Geometry}
 use Rattle.part.proofs.Choice.{T-true, true-T, and-l, and-r}
 use Rattle.buslog.specs.declared.Record.the-variants.{Shift, Deselect}
 use Rattle.registers.specs.Registers.{oip}
-use Rattle.array.specs.Jobs.{withCache}
-use Rattle.transfer.specs.Transfer.{byteOf, instructionOf, heardAs, is, heard, next, nextRead, columnOf, selects, ends, withTransfer, shiftedIn, cached}
+use Rattle.transfer.specs.Transfer.{byteOf, instructionOf, is, heard, next, nextRead, columnOf, selects, ends, withTransfer, shiftedIn, cached}
 use Rattle.transfer.specs.declared.Bus.{Bus}
-use Rattle.transfer.specs.declared.Transfer.{Transfer}
 use Rattle.transfer.specs.declared.Instruction.the-variants.{ReadCache}
-use Rattle.device.specs.Machine.{Machine, overBus, overStore}
+use Rattle.device.specs.Machine.{Machine, overBus}
 use Rattle.device.specs.Work.{Array}
-use Rattle.device.specs.Instructions.{shifts, answer, fed, replies, effect, acted, deselects}
+use Rattle.device.specs.Instructions.{shifts, answer, fed, replies, acted, deselects}
 use Rattle.device.specs.Step.{step, run}
-use Rattle.cases.specs.Cases.{countingFrom, send}
+use Rattle.cases.specs.Cases.{countingFrom}
 use Rattle.cases.specs.RoundThePage.{inRead, answerAt, answersFrom, columnThen, further, PageFits, ReadsRound, ReadsOnly, ReadSent, inLoad, LoadsDrop, roundCases, AllRoundCases}
 
 -- ---- columns
@@ -56,13 +54,6 @@ module _ (g : Geometry) (s : Sound g) where
       go true p = lt-ltb ((c + 1) % page g) (page g) (mod-lt (c + 1) some-page)
       go false p = le-ltb (min 4096 (c + 1)) (page g) (omega (arith, ltb-false c (page g) p, s .small-page))
 
-  then-small : (c : ℕ) → columnThen g c 1 ≤ 4096
-  then-small c = go (ltb c (page g))
-    where
-      go : (a : Bool) → cond a ((c + 1) % page g) (min 4096 (c + 1)) ≤ 4096
-      go true = let h : (c + 1) % page g < page g = mod-lt (c + 1) some-page in omega (arith, h, s .small-page)
-      go false = omega arith
-
   -- and then n more
   then-more : (c n : ℕ) → columnThen g (columnThen g c 1) n ≡ columnThen g c (suc n)
   then-more c n = rw (then-below c) (go (ltb c (page g)) refl)
@@ -93,14 +84,6 @@ module _ (g : Geometry) (s : Sound g) where
       go : (a : Bool) → ltb c (page g) ≡ a → getD cache c 0xFF ≡ cond a (getD cache ((c + 0) % page g) 0xFF) 0xFF
       go true p = let h : c + 0 < page g = omega (arith, ltb-true c (page g) p) in let e : c + 0 ≡ c = omega arith in rw (mod-eq-of-lt h, e)
       go false p = List·getD-eq-default cache 0xFF (omega (arith, l, ltb-false c (page g) p))
-
-  -- no byte on is no column on
-  then-none : (c : ℕ) → c ≤ 4096 → columnThen g c 0 ≡ c
-  then-none c h = go (ltb c (page g)) refl
-    where
-      go : (a : Bool) → ltb c (page g) ≡ a → cond a ((c + 0) % page g) (min 4096 (c + 0)) ≡ c
-      go true p = let k : c + 0 < page g = omega (arith, ltb-true c (page g) p) in mod-eq-of-lt k ∙ omega arith
-      go false p = omega (arith, h)
 
 -- ---- one byte of a cache read
 
@@ -161,12 +144,8 @@ further-more g s m n =
 
 pub reads-only : ReadsOnly
 unfolding fed
-reads-only g m [] f r h k =
-    let e : min 5 (m .state .bus .transfer .count + 0) ≡ m .state .bus .transfer .count = omega (arith, k) in
-    rw (then-none g (f .0) (m .state .bus .transfer .column .0) h, e)
-reads-only g m (b ∷ di) f r h k =
-    rw (read-one g m f r b)
-    (reads-only g (moves g m f r) di f (still-reads g m f r) (then-small g (f .0) (c g m f r)) (omega arith) ∙ further-more g (f .0) m (length di))
+reads-only g m b [] f r = read-one g m f r b
+reads-only g m b (b′ ∷ di) f r = rw (read-one g m f r b) (reads-only g (moves g m f r) b′ di f (still-reads g m f r) ∙ further-more g (f .0) m (suc (length di)))
 
 -- ---- a whole cache read
 
@@ -223,20 +202,23 @@ module _ (g : Geometry) (m : Machine) (k high low idle : ℕ) (off : m .state .b
       ∙ ap (λ (y : Machine). 0xFF ∷ replies g (high ∷ low ∷ idle ∷ di) y) code
       ∙ ap (λ (l : List ℕ). 0xFF ∷ l) (rest-out di)
 
-  -- chip select rises
+  -- chip select rises, at whatever count and column the answers have left
   closes : (arr : Array) (n c : ℕ) → deselects g arr (further n c opened) ≡ overBus ends m
   unfolding deselects acted
   closes arr n c = let z : eqb (min 5 (4 + n)) 0 ≡ false = ne-eqb (min 5 (4 + n)) 0 (λ (q : min 5 (4 + n) ≡ 0). omega (arith, q)) in rw z
 
+  ends-so : (arr : Array) (di : List ℕ) → PageFits g m → deselects g arr (fed g di opened) ≡ overBus ends m
+  unfolding fed
+  ends-so arr [] f = closes arr 0 (columnOf high low .0)
+  ends-so arr (b ∷ di) f = rw (reads-only g opened b di f refl) (closes arr (suc (length di)) (columnThen g (columnOf high low .0) (suc (length di))))
+
 pub read-sent : ReadSent
 unfolding run step
-read-sent g arr m k high low idle di f l off o e = (
+read-sent g arr m k high low idle di f off o e = (
   opens-out g m k high low idle off o e di ∙ ap (λ (l : List ℕ). 0xFF ∷ 0xFF ∷ 0xFF ∷ 0xFF ∷ l) (reads-round g (opened g m k high low idle off o e) di f refl),
   run-shifts g arr (k ∷ high ∷ low ∷ idle ∷ di) (overBus selects m)
-      ∙ ap (deselects g arr)
-      (opens g m k high low idle off o e di
-      ∙ reads-only g (opened g m k high low idle off o e) di f refl (omega (arith, l)) (omega arith))
-      ∙ closes g m k high low idle off o e arr (length di) (columnThen g (columnOf high low .0) (length di)),
+      ∙ ap (deselects g arr) (opens g m k high low idle off o e di)
+      ∙ ends-so g m k high low idle off o e arr di f,
 )
 
 -- ---- loads

@@ -3,7 +3,7 @@
 use mathlib.Core.Bool.{Bool, false, true, _&&_, _||_}
 use mathlib.Core.List.{List, [], _∷_, _++_, map}
 use mathlib.Core.Path.{_≡_}
-use Prim.Native.Nat.{ℕ, _+_, _-_, _%_, _≤_, _<_, min}
+use Prim.Native.Nat.{ℕ, _+_, _-_, _%_, _<_, min}
 use lib.Dec.{ltb, leb, eqb}
 use lib.ListN.{length, getD, replicate}
 use Rattle.part.specs.Choice.{if_then_else_}
@@ -66,18 +66,18 @@ ReadsRound =
     (g : Geometry) (m : Machine) (di : List ℕ) → PageFits g m → inRead (m .state .bus) ≡ true →
     replies g di m ≡ answersFrom g (m .store .cache) (m .state .bus .transfer .column .0) (length di)
 
--- and only the next column and the count of bytes move (both within the bounds of a sound state)
+-- and with one of them or more only the next column and the count of bytes move
 abbrev pub ReadsOnly : Type 0
 ReadsOnly =
-    (g : Geometry) (m : Machine) (di : List ℕ) → PageFits g m → inRead (m .state .bus) ≡ true
-    → m .state .bus .transfer .column .0 ≤ 4096 → m .state .bus .transfer .count ≤ 5 →
-    fed g di m ≡ further (length di) (columnThen g (m .state .bus .transfer .column .0) (length di)) m
+    (g : Geometry) (m : Machine) (b : ℕ) (di : List ℕ) → PageFits g m → inRead (m .state .bus) ≡ true →
+    let n = length (b ∷ di) in
+    fed g (b ∷ di) m ≡ further n (columnThen g (m .state .bus .transfer .column .0) n) m
 
 -- a whole cache read, by either code, sent to an idle chip that is not selected: its first four bytes are answered by FFh, the others so;
 -- and nothing of the machine has changed but the end of the transfer
 abbrev pub ReadSent : Type 0
 ReadSent =
-    (g : Geometry) (arr : Array) (m : Machine) (k high low idle : ℕ) (di : List ℕ) → PageFits g m → low < 256
+    (g : Geometry) (arr : Array) (m : Machine) (k high low idle : ℕ) (di : List ℕ) → PageFits g m
     → m .state .bus .transfer .selected ≡ false → oip (m .state .regs .c0) ≡ false → (eqb k 0x03 || eqb k 0x0B) ≡ true →
     let bytes = k ∷ high ∷ low ∷ idle ∷ di in
     (replies g bytes (overBus selects m) ≡ replicate 4 0xFF ++ answersFrom g (m .store .cache) (columnOf high low .0) (length di))
@@ -87,8 +87,8 @@ ReadSent =
 abbrev pub inLoad : Bus → Bool
 inLoad x = heard x && (is (x .transfer) 0x02 || is (x .transfer) 0x84) && leb 3 (x .transfer .count)
 
--- loads are as they were: byte i of the page is the data's where the data reaches it from the column on, and else what it was; what comes past
--- the page is stored nowhere
+-- loads are as they were: byte i of the page is the data's where the data reaches it from the column on, and else what it was; what comes
+-- past the page is stored nowhere
 abbrev pub LoadsDrop : Type 0
 LoadsDrop =
     (g : Geometry) (m : Machine) (di : List ℕ) (i : ℕ) → PageFits g m → inLoad (m .state .bus) ≡ true → i < page g →

@@ -1,9 +1,8 @@
 -- A whole cache read in one call, proved from what its bytes do one after another.
 use mathlib.Core.List.{List, [], _∷_, _++_, map, append-nil}
-use mathlib.Core.Path.{_≡_, refl, sym, ap, _∙_}
+use mathlib.Core.Path.{_≡_, refl, ap, _∙_}
 use Prim.Native.Nat.{ℕ}
 use Rattle.part.specs.declared.Geometry.{Geometry}
-use Rattle.buslog.specs.Log.{written}
 use Rattle.buslog.specs.declared.Record.{Record}
 use Rattle.buslog.specs.declared.Record.the-variants.{Select, Shift, Deselect}
 use Rattle.transfer.specs.Transfer.{selects}
@@ -13,7 +12,7 @@ use Rattle.device.specs.Instructions.{replies}
 use Rattle.device.specs.Step.{step, run}
 use Rattle.cases.proofs.RoundThePage.{read-sent}
 use Rattle.refusals.proofs.Checked.{passed-sound}
-use Rattle.model.specs.Runs.{bytesOut, runOf}
+use Rattle.model.specs.Runs.{bytesOut}
 use Rattle.model.proofs.Rooms.{out-parts}
 use Rattle.exchange.specs.Exchange.{shiftsOf, transferOf}
 use Rattle.exchange.specs.Promises.{ReadOut}
@@ -34,9 +33,9 @@ transfer-out g arr m di =
     ∙ append-nil (bytesOut g arr (overBus selects m) (shiftsOf di)) ∙ out-replies g arr di (overBus selects m)
 
 pub read-out : ReadOut
-read-out g arr m room k high low idle di ok off o e l h =
+read-out g arr m room k high low idle di ok off o e h =
     let bytes = k ∷ high ∷ low ∷ idle ∷ di in
     let s = passed-sound g m ok in
-    let r = read-sent g arr m k high low idle di (s .0, s .1 .fits .cache-long) l off o e in
+    let r = read-sent g arr m k high low idle di (s .0, s .1 .fits .cache-long) off o e in
     rw (transfer-done g arr m room bytes ok h)
     (refl, ap (λ (es : List Record). run g arr m (Select ∷ (es ++ (Deselect ∷ [])))) (shifts-map bytes) ∙ r .1, transfer-out g arr m bytes ∙ r .0)

@@ -64,7 +64,7 @@ GoesOn =
 abbrev pub ReadOut : Type 0
 ReadOut =
     (g : Geometry) (arr : Array) (m : Machine) (room k high low idle : ℕ) (di : List ℕ) → passed (checkedAs g m) ≡ true
-    → m .state .bus .transfer .selected ≡ false → oip (m .state .regs .c0) ≡ false → (eqb k 0x03 || eqb k 0x0B) ≡ true → low < 256 →
+    → m .state .bus .transfer .selected ≡ false → oip (m .state .regs .c0) ≡ false → (eqb k 0x03 || eqb k 0x0B) ≡ true →
     let bytes = k ∷ high ∷ low ∷ idle ∷ di in
     length bytes ≤ room →
     let o = runOf g arr room (written (transferOf bytes)) m in

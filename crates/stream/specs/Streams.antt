@@ -32,7 +32,8 @@ loading t = is t 0x02 || is t 0x84
 abbrev pub streams : Bus → Bool
 streams x = heard x && eqb (x .transfer .count) 5 && (is (x .transfer) 0x03 || loading (x .transfer))
 
--- the column is in the page, and the cache register as long as a page may be: so it is in every run of a cache read from a column below P
+-- the column is in the page, the cache register as long as the page, and the page no longer than a sound part's: in a run the last two hold
+-- always
 pub record InPage (g : Geometry) (cache : List ℕ) (c : Column) : Type 0 where
   pub below : c .0 < page g
   pub long : length cache ≡ page g

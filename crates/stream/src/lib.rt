@@ -65,7 +65,7 @@ pub fn at_column(c: Column, s: State) -> State
     }
 }
 
-// Whether a column is in the page, and the cache register as long as a page may be.
+// Whether a column is in the page, the cache register as long as the page, and the page no longer than a sound part's.
 fn in_page(g: Geometry, cache: &[u8], c: Column) -> bool
     ensures { λ r. ⌜ r ≡ inPage g (now (cache .entry)) c ⌝ }
 {
@@ -123,7 +123,7 @@ fn reads_round(
     }
 }
 
-// The same wherever the column is.
+// The same from any column, with any cache register.
 fn reads_on(
     g: Geometry,
     s: State,
