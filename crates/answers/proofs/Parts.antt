@@ -11,7 +11,7 @@ use Rattle.buslog.specs.declared.Why.the-variants as why
 use Rattle.buslog.specs.declared.Record.{Record}
 use Rattle.buslog.proofs.Logs.{joined, parse-parts}
 use Rattle.device.specs.Machine.{Machine}
-use Rattle.device.specs.Work.{Array, stepping}
+use Rattle.device.specs.Work.{Array, unitwise}
 use Rattle.device.specs.Step.{run}
 use Rattle.device.specs.Sound.{SoundState}
 use Rattle.kept.specs.Kept.{SoundMachine, BytesIn}
@@ -43,10 +43,10 @@ module _ (g : Geometry) (m : Machine) where
       }
 
 -- after any records whose shifts carry bytes, all the checks hold again
-fine-after : (g : Geometry) (m : Machine) → Fine g m → (es : List Record) → BytesIn es → Fine g (run g (stepping g) m es)
+fine-after : (g : Geometry) (m : Machine) → Fine g m → (es : List Record) → BytesIn es → Fine g (run g (unitwise g) m es)
 fine-after g m f es b =
     let p : Sound g = f .before .before .before .part in
-    fine-of g (run g (stepping g) m es) p (run-keeps g p m es b (sound-of g m f))
+    fine-of g (run g (unitwise g) m es) p (run-keeps g p m es b (sound-of g m f))
 
 pub returns-sound : ReturnsSound
 unfolding runOf ranOf run
@@ -74,6 +74,6 @@ two-runs g arr room a b m f s f′ =
 
 pub in-parts : InParts
 in-parts g room a b h m e =
-    let l : Fine g m × Stops a room 0 = ended g room a m (exactly g (stepping g) room a h m 0 .0 (ap numberOf e)) in
+    let l : Fine g m × Stops a room 0 = ended g room a m (exactly g (unitwise g) room a h m 0 .0 (ap numberOf e)) in
     let r : parse a .records ≡ l .1 .earlier = ap (λ (x : Parsed). x .records) (stops-parse a room why.End (l .1)) in
-    two-runs g (stepping g) room a b m (l .0) (l .1) (fine-after g m (l .0) (l .1 .earlier) (subst BytesIn r (bytes-read a h)))
+    two-runs g (unitwise g) room a b m (l .0) (l .1) (fine-after g m (l .0) (l .1 .earlier) (subst BytesIn r (bytes-read a h)))

@@ -8,7 +8,7 @@ use Rattle.part.specs.declared.Geometry.{Geometry}
 use Rattle.buslog.specs.Log.{Bytes}
 use Rattle.buslog.specs.Read.{parse}
 use Rattle.device.specs.Machine.{Machine}
-use Rattle.device.specs.Work.{Array, stepping}
+use Rattle.device.specs.Work.{Array, unitwise}
 use Rattle.device.specs.Step.{run}
 use Rattle.device.specs.Sound.{SoundState}
 use Rattle.refusals.specs.Refusals.{numberOf}
@@ -54,12 +54,12 @@ Effects =
 abbrev pub ReturnsSound : Type 0
 ReturnsSound =
     (g : Geometry) (room : ℕ) (log : List ℕ) → Bytes log → (m : Machine) → SoundState g (m .state) →
-    SoundState g (runOf g (stepping g) room log m .machine .state)
+    SoundState g (runOf g (unitwise g) room log m .machine .state)
 
 -- a log read to its end and another behind it: running both is running the one and then the other from what came back
 abbrev pub InParts : Type 0
 InParts =
-    (g : Geometry) (room : ℕ) (a b : List ℕ) → Bytes a → (m : Machine) → runOf g (stepping g) room a m .refusal ≡ Done →
-    runOf g (stepping g) room (a ++ b) m
-    ≡ andThen (runOf g (stepping g) room a m)
-    (runOf g (stepping g) (room - length (runOf g (stepping g) room a m .output)) b (runOf g (stepping g) room a m .machine))
+    (g : Geometry) (room : ℕ) (a b : List ℕ) → Bytes a → (m : Machine) → runOf g (unitwise g) room a m .refusal ≡ Done →
+    runOf g (unitwise g) room (a ++ b) m
+    ≡ andThen (runOf g (unitwise g) room a m)
+    (runOf g (unitwise g) (room - length (runOf g (unitwise g) room a m .output)) b (runOf g (unitwise g) room a m .machine))

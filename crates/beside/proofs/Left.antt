@@ -18,7 +18,7 @@ use Rattle.array.specs.declared.Work.{Work}
 use Rattle.array.specs.declared.Work.the-variants.{Idle, Busy}
 use Rattle.soundness.specs.Soundness.{InProgress, WorkSound}
 use Rattle.device.specs.Machine.{Machine, withStore, withWork}
-use Rattle.device.specs.Work.{ended, units, stepping}
+use Rattle.device.specs.Work.{ended, units, unitwise}
 use Rattle.device.specs.Step.{step}
 use Rattle.device.specs.Sound.{soundState}
 use Rattle.device.specs.declared.State.{State}
@@ -79,7 +79,7 @@ left-units g n m (Busy j i) e k =
 
 -- units keep a machine sound
 units-keep : (g : Geometry) → Sound g → (n : ℕ) (m : Machine) → SoundMachine g m → SoundMachine g (units g n m)
-unfolding step stepping
+unfolding step unitwise
 units-keep g s n m h = step-keeps g s m (Units n) tt h
 
 -- the units left of a sound machine

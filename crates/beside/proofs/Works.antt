@@ -13,7 +13,7 @@ use Rattle.buslog.specs.Read.{parse}
 use Rattle.buslog.specs.declared.Record.the-variants.{Units}
 use Rattle.buslog.proofs.Logs.{parse-written}
 use Rattle.device.specs.Machine.{Machine}
-use Rattle.device.specs.Work.{Array, unitOf, units, stepping}
+use Rattle.device.specs.Work.{Array, unitOf, units, unitwise}
 use Rattle.device.specs.Step.{step, run}
 use Rattle.device.specs.declared.State.{State}
 use Rattle.refusals.specs.Refusals.{passed, checkedAs}
@@ -33,12 +33,12 @@ abbrev worked : State → Answer
 worked s = record { refusal = Done; state = s; records = 1; used = 3; written = 0 }
 
 module _ (g : Geometry) (n : ℕ) (m : Machine) (k : Refusal) (p : k ≡ checkedAs g m) where
-  pub work-refused : passed k ≡ false → withAnswer g (stepping g) [] m (nothing k (m .state)) m [] ≡ shown (workOf g (stepping g) n m) []
+  pub work-refused : passed k ≡ false → withAnswer g (unitwise g) [] m (nothing k (m .state)) m [] ≡ shown (workOf g (unitwise g) n m) []
   unfolding workOf run bytesOut written
   work-refused q = rw (← p, q)
 
-  pub work-done : passed k ≡ true → (m₁ : Machine) → m₁ ≡ units g n m → withAnswer g (stepping g) [] m (worked (m₁ .state)) m₁ [] ≡ shown (workOf g (stepping g) n m) []
-  unfolding workOf run bytesOut written step stepping
+  pub work-done : passed k ≡ true → (m₁ : Machine) → m₁ ≡ units g n m → withAnswer g (unitwise g) [] m (worked (m₁ .state)) m₁ [] ≡ shown (workOf g (unitwise g) n m) []
+  unfolding workOf run bytesOut written step unitwise
   work-done q m₁ e = rw (← p, q, e)
 
 -- ---- one work record
@@ -48,9 +48,9 @@ unfolding runOf workOf
 work-one g m room n = go (passed (checkedAs g m))
   where
     go : (b : Bool) →
-        cond b (ranOf g (stepping g) room (parse (bytesOf (Units n))) m) (did g (stepping g) m (checkedAs g m) [])
-        ≡ cond b (did g (stepping g) m Done (Units n ∷ [])) (did g (stepping g) m (checkedAs g m) [])
-    go true = single-done g (stepping g) room (Units n) m refl (omega arith)
+        cond b (ranOf g (unitwise g) room (parse (bytesOf (Units n))) m) (did g (unitwise g) m (checkedAs g m) [])
+        ≡ cond b (did g (unitwise g) m Done (Units n ∷ [])) (did g (unitwise g) m (checkedAs g m) [])
+    go true = single-done g (unitwise g) room (Units n) m refl (omega arith)
     go false = refl
 
 -- ---- several
@@ -62,8 +62,8 @@ units-add g zero b m = rw (zero-add b)
 units-add g (suc a) b m = let e : suc a + b ≡ suc (a + b) = omega arith in rw e (units-add g a b (unitOf g (m .state .work) m))
 
 -- work records do their units together
-run-works : (g : Geometry) (m : Machine) (ns : List ℕ) → run g (stepping g) m (worksOf ns) ≡ units g (together ns) m
-unfolding run step stepping worksOf together units
+run-works : (g : Geometry) (m : Machine) (ns : List ℕ) → run g (unitwise g) m (worksOf ns) ≡ units g (together ns) m
+unfolding run step unitwise worksOf together units
 run-works g m [] = refl
 run-works g m (n ∷ ns) = run-works g (units g n m) ns ∙ sym (units-add g n (together ns) m)
 
@@ -98,11 +98,11 @@ abbrev Alike : Outcome → Outcome → Type 0
 Alike o p = (o .refusal ≡ p .refusal) × (o .machine ≡ p .machine) × (o .output ≡ p .output)
 
 pub work-adds : WorkAdds
-unfolding runOf workOf run step stepping bytesOut
+unfolding runOf workOf run step unitwise bytesOut
 work-adds g m room ns = go (passed (checkedAs g m))
   where
     go : (b : Bool) →
-        Alike (cond b (ranOf g (stepping g) room (parse (written (worksOf ns))) m) (did g (stepping g) m (checkedAs g m) []))
-        (cond b (did g (stepping g) m Done (Units (together ns) ∷ [])) (did g (stepping g) m (checkedAs g m) []))
-    go true = rw (ran-works g (stepping g) m room ns) (refl, run-works g m ns, works-silent g (stepping g) m ns)
+        Alike (cond b (ranOf g (unitwise g) room (parse (written (worksOf ns))) m) (did g (unitwise g) m (checkedAs g m) []))
+        (cond b (did g (unitwise g) m Done (Units (together ns) ∷ [])) (did g (unitwise g) m (checkedAs g m) []))
+    go true = rw (ran-works g (unitwise g) m room ns) (refl, run-works g m ns, works-silent g (unitwise g) m ns)
     go false = (refl, refl, refl)

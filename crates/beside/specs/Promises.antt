@@ -14,7 +14,7 @@ use Rattle.buslog.specs.declared.Record.{Record}
 use Rattle.buslog.specs.declared.Record.the-variants.{Shift, Units}
 use Rattle.registers.specs.Registers.{oip}
 use Rattle.device.specs.Machine.{Machine, machine}
-use Rattle.device.specs.Work.{Array, units, stepping}
+use Rattle.device.specs.Work.{Array, units, unitwise}
 use Rattle.device.specs.Step.{powerUp}
 use Rattle.device.specs.Sound.{soundState}
 use Rattle.device.specs.declared.State.{State}
@@ -67,13 +67,13 @@ together (n ∷ ns) = n + together ns
 abbrev pub WorkAdds : Type 0
 WorkAdds =
     (g : Geometry) (m : Machine) (room : ℕ) (ns : List ℕ) →
-    let o = runOf g (stepping g) room (written (worksOf ns)) m in
-    let p = workOf g (stepping g) (together ns) m in
+    let o = runOf g (unitwise g) room (written (worksOf ns)) m in
+    let p = workOf g (unitwise g) (together ns) m in
     (o .refusal ≡ p .refusal) × (o .machine ≡ p .machine) × (o .output ≡ p .output)
 
 -- and one work record is the same in all that it answers
 abbrev pub WorkOne : Type 0
-WorkOne = (g : Geometry) (m : Machine) (room n : ℕ) → runOf g (stepping g) room (bytesOf (Units n)) m ≡ workOf g (stepping g) n m
+WorkOne = (g : Geometry) (m : Machine) (room n : ℕ) → runOf g (unitwise g) room (bytesOf (Units n)) m ≡ workOf g (unitwise g) n m
 
 -- ---- blank memory
 

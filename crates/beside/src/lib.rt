@@ -2,7 +2,7 @@
 ghost use mathlib.Core.List.{[]};
 ghost use mathlib.Core.Path.{_≡_};
 ghost use Rattle.device.specs.Machine.{machine};
-ghost use Rattle.device.specs.Work.{stepping};
+ghost use Rattle.device.specs.Work.{unitwise};
 ghost use Rattle.model.specs.Runs.{seen, shown};
 ghost use Rattle.beside.specs.Beside.{peekOf, operationLength, unitsLeft, workOf, blankEnd, blankOf};
 use array::Job;
@@ -82,7 +82,7 @@ pub fn work(
 ) -> Answer
     ensures { λ r.
         ⌜ seen r (now (cells .exit)) (now (cache .exit)) (now (counts .exit)) []
-        ≡ shown (workOf g (stepping g) n (machine state (now (cells .entry)) (now (cache .entry)) (now (counts .entry)))) [] ⌝ }
+        ≡ shown (workOf g (unitwise g) n (machine state (now (cells .entry)) (now (cache .entry)) (now (counts .entry)))) [] ⌝ }
 {
     let k = refusals::check(g, state, cells.len(), cache.len(), counts.len());
     if !refusals::passes(k) {

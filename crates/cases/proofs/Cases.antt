@@ -4,12 +4,12 @@ use Rattle.part.specs.Protection.{protects}
 use Rattle.registers.specs.Registers.{registerWritten}
 use Rattle.transfer.specs.Transfer.{instructionOf, selects, shiftedIn, cached}
 use Rattle.array.specs.Jobs.{written}
-use Rattle.device.specs.Work.{unitOf, units, stepping}
+use Rattle.device.specs.Work.{unitOf, units, unitwise}
 use Rattle.requests.specs.Requests.{programFate, eraseFate}
 use Rattle.device.specs.Instructions.{shifts, programs, erases, resets, effect, acted, deselects}
 use Rattle.device.specs.Step.{off, powered, step, run}
 use Rattle.cases.specs.Cases.{cases, AllCases}
 
 pub all-cases : AllCases
-unfolding cases protects registerWritten instructionOf selects shiftedIn cached written unitOf units stepping shifts programFate eraseFate programs erases resets effect acted deselects off powered step run
+unfolding cases protects registerWritten instructionOf selects shiftedIn cached written unitOf units unitwise shifts programFate eraseFate programs erases resets effect acted deselects off powered step run
 all-cases = refl

@@ -14,7 +14,7 @@ use Rattle.array.specs.declared.Job.the-variants.{Restart}
 use Rattle.array.specs.declared.Work.the-variants.{Busy}
 use Rattle.transfer.specs.Transfer.{ends}
 use Rattle.device.specs.Machine.{Machine, withState, withStatus, withWork, overBus}
-use Rattle.device.specs.Work.{units, stepping}
+use Rattle.device.specs.Work.{units, unitwise}
 use Rattle.device.specs.Instructions.{resetState, resets}
 use Rattle.device.specs.Step.{run}
 use Rattle.cases.specs.Cases.{Case, _·_⇒_, after, blank, eraseFive, idleStale, idleWith, send, status, tellingFrom, told, wrong}
@@ -31,11 +31,11 @@ inReset i m = withWork (Busy Restart i) (withStatus (oipSet (resetStatus (m .sta
 
 -- with n units of work after it took effect, busy or idle before: busy for exactly 8 units; no cell, cache byte or count is touched
 abbrev pub ResetTakes : Type 0
-ResetTakes = (g : Geometry) (m : Machine) (n : ℕ) → units g n (resets (stepping g) m) ≡ (if ltb n 8 then inReset n m else afterReset m)
+ResetTakes = (g : Geometry) (m : Machine) (n : ℕ) → units g n (resets (unitwise g) m) ≡ (if ltb n 8 then inReset n m else afterReset m)
 
 -- one that takes effect during those units, or after them, starts the 8 again
 abbrev pub ResetAgain : Type 0
-ResetAgain = (g : Geometry) (m : Machine) (n : ℕ) → resets (stepping g) (units g n (resets (stepping g) m)) ≡ resets (stepping g) m
+ResetAgain = (g : Geometry) (m : Machine) (n : ℕ) → resets (unitwise g) (units g n (resets (unitwise g) m)) ≡ resets (unitwise g) m
 
 -- FFh, a transfer of its own
 abbrev pub reset : List Record
@@ -44,7 +44,7 @@ reset = send (0xFF ∷ [])
 -- sent to a chip that is not selected, it takes effect on every machine; and then n units of work
 abbrev pub ResetSent : Type 0
 ResetSent = (g : Geometry) (m : Machine) (n : ℕ) → m .state .bus .transfer .selected ≡ false
-    → run g (stepping g) m (reset ++ Units n ∷ []) ≡ (if ltb n 8 then inReset n (overBus ends m) else afterReset (overBus ends m))
+    → run g (unitwise g) m (reset ++ Units n ∷ []) ≡ (if ltb n 8 then inReset n (overBus ends m) else afterReset (overBus ends m))
 
 -- ---- cases
 

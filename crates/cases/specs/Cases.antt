@@ -15,7 +15,7 @@ use Rattle.array.specs.Jobs.{withCache}
 use Rattle.array.specs.declared.Work.the-variants.{Idle}
 use Rattle.device.specs.declared.State.{State}
 use Rattle.device.specs.Machine.{Machine, machine, overStore}
-use Rattle.device.specs.Work.{stepping}
+use Rattle.device.specs.Work.{unitwise}
 use Rattle.device.specs.Step.{run}
 
 -- the state of an idle part, WP# high: A0h and C0h as given
@@ -39,7 +39,7 @@ abbrev pub send : List ℕ → List Record
 send bytes = Select ∷ map Shift bytes ++ Deselect ∷ []
 
 abbrev pub after : Machine → List Record → Machine
-after m es = run bench (stepping bench) m es
+after m es = run bench (unitwise bench) m es
 
 abbrev pub blank : List ℕ
 blank = replicate 640 255

@@ -58,5 +58,5 @@ WorkReady g Idle s = Unit {0}
 WorkReady g (Busy j i) s = Ready g j i s
 
 -- the array of the datasheet: unit by unit, and nothing to settle at a cut
-unfoldable pub stepping : Geometry → Array
-stepping g = record { begin = begins; worked = units g; cut = λ m. m }
+unfoldable pub unitwise : Geometry → Array
+unitwise g = record { begin = begins; worked = units g; cut = λ m. m }

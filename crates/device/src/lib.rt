@@ -4,7 +4,7 @@ ghost use mathlib.Core.Path.{_≡_};
 ghost use Rattle.array.specs.Jobs.{store};
 ghost use Rattle.transfer.specs.Transfer.{selects, withPins};
 ghost use Rattle.device.specs.Machine.{Machine, onCache, onCounts, onStore, busIn, statusIn};
-ghost use Rattle.device.specs.Work.{begun, endedState, units, stepping, workedState, WorkReady};
+ghost use Rattle.device.specs.Work.{begun, endedState, units, unitwise, workedState, WorkReady};
 ghost use Rattle.device.specs.Instructions.{answer, shifts, programs, erases, resetState, writtenState, effect, acted, deselects};
 ghost use Rattle.device.specs.Step.{powerUp, powered};
 ghost use Rattle.device.specs.Sound.{soundState};
@@ -116,7 +116,7 @@ impl State {
 
     // 10h with its row.
     fn programs(self, g: Geometry, row: Row, counts: &mut [u8]) -> State
-        ensures { λ r. ⌜ ((m : Machine) → onCounts r (now (counts .exit)) m ≡ programs g (stepping g) row (onCounts self (now (counts .entry)) m)) ⌝ }
+        ensures { λ r. ⌜ ((m : Machine) → onCounts r (now (counts .exit)) m ≡ programs g (unitwise g) row (onCounts self (now (counts .entry)) m)) ⌝ }
     {
         let r = self.regs;
         if !registers::wel(r.c0) {
@@ -132,7 +132,7 @@ impl State {
 
     // D8h with its row.
     fn erases(self, g: Geometry, row: Row, counts: &mut [u8]) -> State
-        ensures { λ r. ⌜ ((m : Machine) → onCounts r (now (counts .exit)) m ≡ erases g (stepping g) row (onCounts self (now (counts .entry)) m)) ⌝ }
+        ensures { λ r. ⌜ ((m : Machine) → onCounts r (now (counts .exit)) m ≡ erases g (unitwise g) row (onCounts self (now (counts .entry)) m)) ⌝ }
     {
         let r = self.regs;
         if !registers::wel(r.c0) {
@@ -164,7 +164,7 @@ impl State {
 
     // What the instruction does, its bytes all there.
     fn effect(self, g: Geometry, counts: &mut [u8]) -> State
-        ensures { λ r. ⌜ ((m : Machine) → onCounts r (now (counts .exit)) m ≡ effect g (stepping g) (self .bus .transfer .instruction) (onCounts self (now (counts .entry)) m)) ⌝ }
+        ensures { λ r. ⌜ ((m : Machine) → onCounts r (now (counts .exit)) m ≡ effect g (unitwise g) (self .bus .transfer .instruction) (onCounts self (now (counts .entry)) m)) ⌝ }
     {
         let r = self.regs;
         let x = self.bus;
@@ -203,7 +203,7 @@ impl State {
 
     // The instruction acts if exactly its bytes were shifted.
     fn acts(self, g: Geometry, counts: &mut [u8]) -> State
-        ensures { λ r. ⌜ ((m : Machine) → onCounts r (now (counts .exit)) m ≡ acted g (stepping g) (onCounts self (now (counts .entry)) m)) ⌝ }
+        ensures { λ r. ⌜ ((m : Machine) → onCounts r (now (counts .exit)) m ≡ acted g (unitwise g) (onCounts self (now (counts .entry)) m)) ⌝ }
     {
         let x = self.bus;
         let t = x.transfer;
@@ -215,7 +215,7 @@ impl State {
 
     // Chip select rises.
     pub fn deselect(self, g: Geometry, counts: &mut [u8]) -> State
-        ensures { λ r. ⌜ ((m : Machine) → onCounts r (now (counts .exit)) m ≡ deselects g (stepping g) (onCounts self (now (counts .entry)) m)) ⌝ }
+        ensures { λ r. ⌜ ((m : Machine) → onCounts r (now (counts .exit)) m ≡ deselects g (unitwise g) (onCounts self (now (counts .entry)) m)) ⌝ }
     {
         let x = self.bus;
         let t = x.transfer;
@@ -229,7 +229,7 @@ impl State {
 
     // Power lost and back.
     pub fn power(self, g: Geometry, cache: &mut [u8]) -> State
-        ensures { λ r. ⌜ ((m : Machine) → onCache r (now (cache .exit)) m ≡ powered g (stepping g) (onCache self (now (cache .entry)) m)) ⌝ }
+        ensures { λ r. ⌜ ((m : Machine) → onCache r (now (cache .exit)) m ≡ powered g (unitwise g) (onCache self (now (cache .entry)) m)) ⌝ }
     {
         part::fill(cache, 0xFF);
         let x = self.bus;

@@ -19,7 +19,7 @@ use Rattle.registers.specs.Registers.{oip}
 use Rattle.transfer.specs.Transfer.{fresh, heard, instructed, later, selects, shiftedIn, withTransfer}
 use Rattle.transfer.specs.declared.Bus.{Bus}
 use Rattle.device.specs.Machine.{Machine, overBus}
-use Rattle.device.specs.Work.{Array, stepping}
+use Rattle.device.specs.Work.{Array, unitwise}
 use Rattle.device.specs.Instructions.{shifts}
 use Rattle.device.specs.Step.{step, run}
 use Rattle.kept.specs.Kept.{SoundMachine, BytesIn}
@@ -154,29 +154,29 @@ passes-sound g s m h = ap passed (checked-only g m Done (fine-of g m s h))
 
 module _ (g : Geometry) (m : Machine) (di : List ℕ) (r : ℕ) (b : Bytes di) (ok : passed (checkedAs g m) ≡ true) where
   -- the machine is sound where the transfer is cut off
-  cut-sound : SoundMachine g (cut g (stepping g) m di r)
+  cut-sound : SoundMachine g (cut g (unitwise g) m di r)
   cut-sound = let s = passed-sound g m ok in run-keeps g (s .0) m (Select ∷ shiftsOf (take r di)) (tt, bytes-in (take r di) (take-bytes r di b)) (s .1)
 
   -- and behind the bytes that are left
   abbrev rest : Machine
-  rest = run g (stepping g) (cut g (stepping g) m di r) (shiftsOf (drop r di))
+  rest = run g (unitwise g) (cut g (unitwise g) m di r) (shiftsOf (drop r di))
 
   rest-sound : SoundMachine g rest
-  rest-sound = run-keeps g (passed-sound g m ok .0) (cut g (stepping g) m di r) (shiftsOf (drop r di)) (bytes-in (drop r di) (drop-bytes r di b)) cut-sound
+  rest-sound = run-keeps g (passed-sound g m ok .0) (cut g (unitwise g) m di r) (shiftsOf (drop r di)) (bytes-in (drop r di) (drop-bytes r di b)) cut-sound
 
   -- the second call
-  second : runOf g (stepping g) (length (drop r di)) (written (shiftsOf (drop r di))) (cut g (stepping g) m di r) ≡ did g (stepping g) (cut g (stepping g) m di r) Done (shiftsOf (drop r di))
+  second : runOf g (unitwise g) (length (drop r di)) (written (shiftsOf (drop r di))) (cut g (unitwise g) m di r) ≡ did g (unitwise g) (cut g (unitwise g) m di r) Done (shiftsOf (drop r di))
   second =
-      piece-done g (stepping g) (cut g (stepping g) m di r) (length (drop r di)) (drop r di)
-      (passes-sound g (passed-sound g m ok .0) (cut g (stepping g) m di r) cut-sound) (omega arith)
+      piece-done g (unitwise g) (cut g (unitwise g) m di r) (length (drop r di)) (drop r di)
+      (passes-sound g (passed-sound g m ok .0) (cut g (unitwise g) m di r) cut-sound) (omega arith)
 
   -- the third
-  third : runOf g (stepping g) 0 (bytesOf Deselect) rest ≡ did g (stepping g) rest Done (Deselect ∷ [])
+  third : runOf g (unitwise g) 0 (bytesOf Deselect) rest ≡ did g (unitwise g) rest Done (Deselect ∷ [])
   unfolding written shiftsIn levelsSound
-  third = ran-all g (stepping g) rest 0 (Deselect ∷ []) (passes-sound g (passed-sound g m ok .0) rest rest-sound) tt (omega arith)
+  third = ran-all g (unitwise g) rest 0 (Deselect ∷ []) (passes-sound g (passed-sound g m ok .0) rest rest-sound) tt (omega arith)
 
 pub completes-calls : Completes
 unfolding run
 completes-calls g m di r b ok h =
-    rw (cut-off g (stepping g) m di r ok h .0, second g m di r b ok, third g m di r b ok, transfer-done g (stepping g) m (length di) di ok (omega arith))
-    (refl, refl, sym (completes g (stepping g) m di r), sym (completes-out g (stepping g) m di r))
+    rw (cut-off g (unitwise g) m di r ok h .0, second g m di r b ok, third g m di r b ok, transfer-done g (unitwise g) m (length di) di ok (omega arith))
+    (refl, refl, sym (completes g (unitwise g) m di r), sym (completes-out g (unitwise g) m di r))

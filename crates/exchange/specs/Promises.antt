@@ -11,7 +11,7 @@ use Rattle.buslog.specs.declared.Record.the-variants.{Select, Deselect}
 use Rattle.registers.specs.Registers.{oip}
 use Rattle.transfer.specs.Transfer.{columnOf, ends}
 use Rattle.device.specs.Machine.{Machine, overBus}
-use Rattle.device.specs.Work.{Array, stepping}
+use Rattle.device.specs.Work.{Array, unitwise}
 use Rattle.device.specs.Step.{step, run}
 use Rattle.cases.specs.RoundThePage.{answersFrom}
 use Rattle.refusals.specs.Refusals.{passed, checkedAs}
@@ -47,10 +47,10 @@ CutOff =
 abbrev pub Completes : Type 0
 Completes =
     (g : Geometry) (m : Machine) (di : List ℕ) (r : ℕ) → Bytes di → passed (checkedAs g m) ≡ true → r < length di →
-    let o = runOf g (stepping g) r (written (transferOf di)) m in
-    let p = runOf g (stepping g) (length (drop r di)) (written (shiftsOf (drop r di))) (o .machine) in
-    let q = runOf g (stepping g) 0 (bytesOf Deselect) (p .machine) in
-    let w = runOf g (stepping g) (length di) (written (transferOf di)) m in
+    let o = runOf g (unitwise g) r (written (transferOf di)) m in
+    let p = runOf g (unitwise g) (length (drop r di)) (written (shiftsOf (drop r di))) (o .machine) in
+    let q = runOf g (unitwise g) 0 (bytesOf Deselect) (p .machine) in
+    let w = runOf g (unitwise g) (length di) (written (transferOf di)) m in
     (p .refusal ≡ Done) × (q .refusal ≡ Done) × (q .machine ≡ w .machine) × (o .output ++ p .output ≡ w .output)
 
 -- on a chip that is selected already, the select of a transfer changes nothing: its bytes go on with the transfer that has begun

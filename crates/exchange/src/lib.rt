@@ -7,7 +7,7 @@ ghost use lib.ListN.{length};
 ghost use Rattle.buslog.specs.Log.{written};
 ghost use Rattle.transfer.specs.Transfer.{is};
 ghost use Rattle.device.specs.Machine.{machine};
-ghost use Rattle.device.specs.Work.{stepping};
+ghost use Rattle.device.specs.Work.{unitwise};
 ghost use Rattle.model.specs.Runs.{runOf, seen, shown};
 ghost use Rattle.stream.specs.Streams.{Past, loading, streams};
 ghost use Rattle.exchange.specs.Exchange.{shiftsOf, transferOf, unlogged, Exchanged};
@@ -104,7 +104,7 @@ pub fn shifts(
 ) -> Answer
     ensures { λ r.
         ⌜ seen r (now (cells .exit)) (now (cache .exit)) (now (counts .exit)) (now (out .exit))
-        ≡ unlogged (shown (runOf g (stepping g) (length (now (out .entry))) (written (shiftsOf (now (di .entry)))) (machine state (now (cells .entry)) (now (cache .entry)) (now (counts .entry)))) (now (out .entry))) ⌝ }
+        ≡ unlogged (shown (runOf g (unitwise g) (length (now (out .entry))) (written (shiftsOf (now (di .entry)))) (machine state (now (cells .entry)) (now (cache .entry)) (now (counts .entry)))) (now (out .entry))) ⌝ }
 {
     let k = refusals::check(g, state, cells.len(), cache.len(), counts.len());
     if !refusals::passes(k) {
@@ -143,7 +143,7 @@ pub fn transfer(
 ) -> Answer
     ensures { λ r.
         ⌜ seen r (now (cells .exit)) (now (cache .exit)) (now (counts .exit)) (now (out .exit))
-        ≡ unlogged (shown (runOf g (stepping g) (length (now (out .entry))) (written (transferOf (now (di .entry)))) (machine state (now (cells .entry)) (now (cache .entry)) (now (counts .entry)))) (now (out .entry))) ⌝ }
+        ≡ unlogged (shown (runOf g (unitwise g) (length (now (out .entry))) (written (transferOf (now (di .entry)))) (machine state (now (cells .entry)) (now (cache .entry)) (now (counts .entry)))) (now (out .entry))) ⌝ }
 {
     let k = refusals::check(g, state, cells.len(), cache.len(), counts.len());
     if !refusals::passes(k) {

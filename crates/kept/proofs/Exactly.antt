@@ -19,7 +19,7 @@ use Rattle.array.specs.declared.Job.the-variants.{Read, Program, Erase, Restart
 use Rattle.array.specs.declared.Work.{Work}
 use Rattle.array.specs.declared.Work.the-variants.{Idle, Busy}
 use Rattle.soundness.specs.Soundness.{Within, HighSound, InProgress, WorkSound, letIn, within, highSound, registersSound, transferSound, inArray, workSound, calm}
-use Rattle.device.specs.Work.{stepping}
+use Rattle.device.specs.Work.{unitwise}
 use Rattle.device.specs.Step.{off, powered}
 use Rattle.device.specs.Sound.{SoundState, soundState}
 use Rattle.kept.specs.Kept.{SoundExactly, PowerUpIs, PowerUpSound}
@@ -118,7 +118,7 @@ sound-exactly g s = (in-words, as-test)
 -- ---- the power-up state
 
 pub power-up-is : PowerUpIs
-unfolding powered off stepping
+unfolding powered off unitwise
 power-up-is g m e = rw e
 
 pub power-up-sound : PowerUpSound

@@ -18,7 +18,7 @@ use Rattle.array.specs.declared.Job.the-variants.{Read, Program, Erase, Restart
 use Rattle.array.specs.declared.Work.the-variants.{Idle}
 use Rattle.soundness.specs.Soundness.{HighSound}
 use Rattle.device.specs.Machine.{Machine, withStatus, withWork, withCounts}
-use Rattle.device.specs.Work.{begins, stepping}
+use Rattle.device.specs.Work.{begins, unitwise}
 use Rattle.requests.specs.declared.Fate.{Fate}
 use Rattle.requests.specs.Requests.{begins?, programFate, eraseFate, counted, uncounted}
 use Rattle.requests.proofs.Fates.{erase-inside, program-begins}
@@ -52,8 +52,8 @@ requested-sane g f go fail m q k h =
     c = m .state .regs .c0
 
 module _ (g : Geometry) (s : Sound g) where
-  programs-sane : (r : Row) (m : Machine) → Sane g m → Sane g (programs g (stepping g) r m)
-  unfolding programs stepping
+  programs-sane : (r : Row) (m : Machine) → Sane g m → Sane g (programs g (unitwise g) r m)
+  unfolding programs unitwise
   programs-sane r m h =
       requested-sane g (programFate g (m .state .regs .a0) r (m .counts)) (λ m′. begins (Program r) (withCounts (counted r (m′ .counts)) m′)) pFailSet m
       (λ h o b. (omega arith, omega arith))
@@ -61,8 +61,8 @@ module _ (g : Geometry) (s : Sound g) where
       (counts-sane g (counted r (m′ .counts)) m′ (counted-long r (m′ .counts) ∙ h′ .counts) h′))
       h
 
-  erases-sane : (r : Row) (m : Machine) → Sane g m → Sane g (erases g (stepping g) r m)
-  unfolding erases stepping
+  erases-sane : (r : Row) (m : Machine) → Sane g m → Sane g (erases g (unitwise g) r m)
+  unfolding erases unitwise
   erases-sane r m h =
       requested-sane g (eraseFate g (m .state .regs .a0) r) (λ m′. begins (Erase r) (withCounts (uncounted g r (m′ .counts)) m′)) eFailSet m
       (λ h o b. (omega arith, omega arith))
@@ -71,8 +71,8 @@ module _ (g : Geometry) (s : Sound g) where
       h
 
   -- what each instruction does
-  effect-sane : (i : Instruction) (m : Machine) → Sane g m → Sane g (effect g (stepping g) i m)
-  unfolding effect resets stepping registerWritten
+  effect-sane : (i : Instruction) (m : Machine) → Sane g m → Sane g (effect g (unitwise g) i m)
+  unfolding effect resets unitwise registerWritten
   effect-sane WriteEnable m h = status-sane g (welSet (m .state .regs .c0)) m (omega arith) (omega arith) h
   effect-sane WriteDisable m h = status-sane g (welCleared (m .state .regs .c0)) m (omega arith) (omega arith) h
   effect-sane SetFeature m h =
@@ -92,6 +92,6 @@ module _ (g : Geometry) (s : Sound g) where
   effect-sane Load m h = h
   effect-sane LoadRandom m h = h
 
-  pub acted-sane : (m : Machine) → Sane g m → Sane g (acted g (stepping g) m)
+  pub acted-sane : (m : Machine) → Sane g m → Sane g (acted g (unitwise g) m)
   unfolding acted
   acted-sane m h = cond-keep (Sane g) (full (m .state .bus .transfer)) (λ e. effect-sane (m .state .bus .transfer .instruction) m h) (λ e. h)

@@ -18,7 +18,7 @@ use Rattle.array.specs.declared.Job.the-variants.{Read}
 use Rattle.array.specs.declared.Work.{Work}
 use Rattle.array.specs.declared.Work.the-variants.{Idle, Busy}
 use Rattle.device.specs.Machine.{Machine}
-use Rattle.device.specs.Work.{unitOf, units, stepping}
+use Rattle.device.specs.Work.{unitOf, units, unitwise}
 use Rattle.device.specs.Instructions.{shifts, acted, deselects}
 use Rattle.device.specs.Step.{off, powered, step, run}
 use Rattle.soundness.specs.Soundness.{InProgress, WorkSound}
@@ -109,8 +109,8 @@ off-sane g m h =
     (over-memory g _ (m .counts) (fits-cache g _ (m .store) (length-replicate (length (m .store .cache)) 0xFF ∙ h .fits .cache-long) (h .fits)) (h .counts) h)
 
 -- each record of the log
-held-step : (g : Geometry) → Sound g → (m : Machine) (e : Record) → ByteIn e → Held g m → Held g (step g (stepping g) m e)
-unfolding step shifts deselects powered off stepping
+held-step : (g : Geometry) → Sound g → (m : Machine) (e : Record) → ByteIn e → Held g m → Held g (step g (unitwise g) m e)
+unfolding step shifts deselects powered off unitwise
 held-step g s m Select b h = record { sane = h .sane; bus = selects-on-bus (m .state .regs .c0) (m .state .bus) (h .bus) }
 held-step g s m (Shift v) b h =
     record {
@@ -119,15 +119,15 @@ held-step g s m (Shift v) b h =
     }
 held-step g s m Deselect b h =
     cond-keep (Held g) (m .state .bus .transfer .selected)
-    (λ e. record { sane = acted-sane g s m (h .sane); bus = fresh-on-bus (acted g (stepping g) m .state .regs .c0) false }) (λ e. h)
+    (λ e. record { sane = acted-sane g s m (h .sane); bus = fresh-on-bus (acted g (unitwise g) m .state .regs .c0) false }) (λ e. h)
 held-step g s m (Units n) b h = record { sane = units-sane g n m (h .sane); bus = units-on-bus g n m (h .bus) }
 held-step g s m (Level v) b h = record { sane = h .sane; bus = h .bus }
 held-step g s m Power b h = record { sane = begun-sane g s (Read (record { 0 = 0 })) (off g m) tt (off-sane g m (h .sane)); bus = fresh-on-bus _ false }
 
 pub step-keeps : StepKeeps
-step-keeps g s m e b h = of-held g (step g (stepping g) m e) (held-step g s m e b (held-of g m h))
+step-keeps g s m e b h = of-held g (step g (unitwise g) m e) (held-step g s m e b (held-of g m h))
 
 pub run-keeps : RunKeeps
 unfolding run
 run-keeps g s m [] b h = h
-run-keeps g s m (e ∷ es) b h = run-keeps g s (step g (stepping g) m e) es (b .1) (step-keeps g s m e (b .0) h)
+run-keeps g s m (e ∷ es) b h = run-keeps g s (step g (unitwise g) m e) es (b .1) (step-keeps g s m e (b .0) h)

@@ -12,7 +12,7 @@ use Rattle.buslog.specs.declared.Record.{Record}
 use Rattle.buslog.specs.declared.Record.the-variants.{Select, Shift, Deselect, Units, Level, Power}
 use Rattle.array.specs.Jobs.{Fits}
 use Rattle.device.specs.Machine.{Machine}
-use Rattle.device.specs.Work.{Array, stepping}
+use Rattle.device.specs.Work.{Array, unitwise}
 use Rattle.device.specs.Step.{powered, powerUp, step, run}
 use Rattle.device.specs.Sound.{SoundState, soundState}
 use Rattle.device.specs.declared.State.{State}
@@ -42,7 +42,7 @@ SoundExactly = (g : Geometry) (s : State) → T (soundState g s) ↔ SoundState 
 
 -- the power-up state is what power lost and back leaves, with WP# high
 abbrev pub PowerUpIs : Type 0
-PowerUpIs = (g : Geometry) (m : Machine) → m .state .bus .pins .wp ≡ true → powered g (stepping g) m .state ≡ powerUp
+PowerUpIs = (g : Geometry) (m : Machine) → m .state .bus .pins .wp ≡ true → powered g (unitwise g) m .state ≡ powerUp
 
 -- the power-up state is sound
 abbrev pub PowerUpSound : Type 0
@@ -54,8 +54,8 @@ Keeps g arr = (m : Machine) (e : Record) → ByteIn e → SoundMachine g m → S
 
 -- every step keeps soundness and lengths
 abbrev pub StepKeeps : Type 0
-StepKeeps = (g : Geometry) → Sound g → Keeps g (stepping g)
+StepKeeps = (g : Geometry) → Sound g → Keeps g (unitwise g)
 
 -- and so does every run
 abbrev pub RunKeeps : Type 0
-RunKeeps = (g : Geometry) → Sound g → (m : Machine) (es : List Record) → BytesIn es → SoundMachine g m → SoundMachine g (run g (stepping g) m es)
+RunKeeps = (g : Geometry) → Sound g → (m : Machine) (es : List Record) → BytesIn es → SoundMachine g m → SoundMachine g (run g (unitwise g) m es)

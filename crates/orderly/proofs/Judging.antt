@@ -21,7 +21,7 @@ use Rattle.buslog.specs.declared.Why.{Why}
 use Rattle.buslog.proofs.Logs.{parse-ends, parse-found}
 use Rattle.buslog.proofs.RoundTrip.{found-front, stop-front}
 use Rattle.device.specs.Machine.{Machine, machine}
-use Rattle.device.specs.Work.{stepping}
+use Rattle.device.specs.Work.{unitwise}
 use Rattle.device.specs.Step.{step}
 use Rattle.kept.specs.Kept.{SoundMachine, ByteIn}
 use Rattle.kept.proofs.Steps.{step-keeps}
@@ -50,11 +50,11 @@ left log out₀ at count = fitting (length out₀ - count) (parse (drop at log) 
 module _ (g : Geometry) (log out₀ : List ℕ) (m₀ : Machine) where
   -- the run goes on, and the judgement from its start is the flag so far with what is left to judge
   pub record Judging (w : Walk) (ok : Bool) (out : List ℕ) (m : Machine) : Type 0 where
-    pub going : Going g (stepping g) log out₀ m₀ w out m
+    pub going : Going g (unitwise g) log out₀ m₀ w out m
     pub same : starts (m₀ .state) && orderly g m₀ (fitting (length out₀) (parse log .records)) ≡ ok && orderly g m (left log out₀ (w .at) (w .written))
 
   pub judging-start : SoundMachine g m₀ → Judging (startOf (m₀ .state)) (starts (m₀ .state)) out₀ m₀
-  judging-start s = record { going = going-start g (stepping g) log out₀ m₀ s; same = let n : length out₀ - 0 ≡ length out₀ = omega arith in rw n }
+  judging-start s = record { going = going-start g (unitwise g) log out₀ m₀ s; same = let n : length out₀ - 0 ≡ length out₀ = omega arith in rw n }
 
   -- what was handed in
   abbrev pub handed : Given
@@ -62,7 +62,7 @@ module _ (g : Geometry) (log out₀ : List ℕ) (m₀ : Machine) where
 
   -- the run from its start
   abbrev whole : Outcome
-  whole = ranOf g (stepping g) (length out₀) (parse log) m₀
+  whole = ranOf g (unitwise g) (length out₀) (parse log) m₀
 
   -- the records done are those that find room
   done-first : take (whole .records) (parse log .records) ≡ fitting (length out₀) (parse log .records)
@@ -75,10 +75,10 @@ module _ (g : Geometry) (log out₀ : List ℕ) (m₀ : Machine) where
 
   module _ (p : Sound g) (s₀ : SoundMachine g m₀) (w : Walk) (ok : Bool) (out : List ℕ) (m : Machine) (h : Judging w ok out m) where
     -- no record is left that finds room
-    stop-with : (r : Refusal) → left log out₀ (w .at) (w .written) ≡ [] → Seen g (stepping g) log out₀ m₀ w out m (h .going) r → Told r w ok m out
+    stop-with : (r : Refusal) → left log out₀ (w .at) (w .written) ≡ [] → Seen g (unitwise g) log out₀ m₀ w out m (h .going) r → Told r w ok m out
     unfolding orderly
     stop-with r n seen =
-        let q : runOf g (stepping g) (length out₀) log m₀ ≡ whole = is-fine g (stepping g) (length out₀) log m₀ (fine-of g m₀ p s₀) in
+        let q : runOf g (unitwise g) (length out₀) log m₀ ≡ whole = is-fine g (unitwise g) (length out₀) log m₀ (fine-of g m₀ p s₀) in
         let k : ok ≡ starts (m₀ .state) && orderly g m₀ (take (whole .records) (parse log .records)) = sym (rw done-first (h .same ∙ rw n (and-true ok))) in
         rw q
         (ap (λ (e : End). record { end = e; orderly = ok && idle (e .answer .state) }) seen
@@ -88,32 +88,32 @@ module _ (g : Geometry) (log out₀ : List ℕ) (m₀ : Machine) where
     judging-ends : (why : Why) → nextOf log (w .at) ≡ Stop why → Told (refusalOf why) w ok m out
     unfolding nextOf fitting
     judging-ends why e =
-        stop-with (refusalOf why) (rw (parse-ends (drop (w .at) log) why (stop-front (w .at) (front (drop (w .at) log)) why e))) (going-ends g (stepping g) log out₀ m₀ w out m (h .going) why e)
+        stop-with (refusalOf why) (rw (parse-ends (drop (w .at) log) why (stop-front (w .at) (front (drop (w .at) log)) why e))) (going-ends g (unitwise g) log out₀ m₀ w out m (h .going) why e)
 
     judging-full : (e : Record) (n : ℕ) → nextOf log (w .at) ≡ Found e n → length out₀ - w .written < takes e → Told NoRoom w ok m out
     unfolding nextOf fitting
     judging-full e n q k =
         let f = found-front (w .at) (front (drop (w .at) log)) e n q in
-        stop-with NoRoom (rw (parse-found (drop (w .at) log) e (f .0) (f .1), lt-ltb _ _ k)) (going-full g (stepping g) log out₀ m₀ w out m (h .going) e n q k)
+        stop-with NoRoom (rw (parse-found (drop (w .at) log) e (f .0) (f .1), lt-ltb _ _ k)) (going-full g (unitwise g) log out₀ m₀ w out m (h .going) e n q k)
 
     -- a record done, and judged
     left-next : (e : Record) (b : ℕ) → front (drop (w .at) log) ≡ found e b → takes e ≤ length out₀ - w .written
         → ok && orderly g m (left log out₀ (w .at) (w .written))
-        ≡ ok && allowed (m .state) e && orderly g (step g (stepping g) m e) (left log out₀ (w .at + suc b) (w .written + takes e))
+        ≡ ok && allowed (m .state) e && orderly g (step g (unitwise g) m e) (left log out₀ (w .at + suc b) (w .written + takes e))
     unfolding fitting orderly
     left-next e b q k =
         let less : length out₀ - (w .written + takes e) ≡ length out₀ - w .written - takes e = omega arith in
         rw (parse-found (drop (w .at) log) e b q, drop-drop (suc b) (w .at) log, le-ltb (length out₀ - w .written) (takes e) k, less) (sym (and-assoc ok (allowed (m .state) e) _))
 
     judging-next : (e : Record) (n : ℕ) → nextOf log (w .at) ≡ Found e n → ByteIn e → takes e ≤ length out₀ - w .written
-        → Judging (behind w (step g (stepping g) m e .state) n (takes e)) (ok && allowed (m .state) e) (over out (w .written) (puts g m e)) (step g (stepping g) m e)
+        → Judging (behind w (step g (unitwise g) m e .state) n (takes e)) (ok && allowed (m .state) e) (over out (w .written) (puts g m e)) (step g (unitwise g) m e)
     unfolding nextOf
     judging-next e n q b k =
         let f = found-front (w .at) (front (drop (w .at) log)) e n q in
         let i : w .at + suc (f .0) ≡ n = omega (arith, f .2) in
         record {
-          going = going-next g (stepping g) log out₀ m₀ w out m (h .going) (step-keeps g p) e n q b k;
-          same = h .same ∙ left-next e (f .0) (f .1) k ∙ ap (λ (x : ℕ). ok && allowed (m .state) e && orderly g (step g (stepping g) m e) (left log out₀ x (w .written + takes e))) i;
+          going = going-next g (unitwise g) log out₀ m₀ w out m (h .going) (step-keeps g p) e n q b k;
+          same = h .same ∙ left-next e (f .0) (f .1) k ∙ ap (λ (x : ℕ). ok && allowed (m .state) e && orderly g (step g (unitwise g) m e) (left log out₀ x (w .written + takes e))) i;
         }
 
     -- ---- a turn
@@ -126,11 +126,11 @@ module _ (g : Geometry) (log out₀ : List ℕ) (m₀ : Machine) where
     abbrev LeftBy : Next → Turned → Type 0
     LeftBy n t = Left n (t .went) (t .machine) (t .out)
 
-    turn-leaves : Bytes log → (n : Next) → nextOf log (w .at) ≡ n → LeftBy n (turnOf g (stepping g) w n m out)
+    turn-leaves : Bytes log → (n : Next) → nextOf log (w .at) ≡ n → LeftBy n (turnOf g (unitwise g) w n m out)
     unfolding turnOf
     turn-leaves b (Stop why) q = judging-ends why q
     turn-leaves b (Found e n) q =
-        let l = out-long g (stepping g) log out₀ m₀ w out m (h .going) in
+        let l = out-long g (unitwise g) log out₀ m₀ w out m (h .going) in
         cond-keep (LeftBy (Found e n)) (ltb (length out - w .written) (takes e))
         (λ k. judging-full e n q (omega (arith, ltb-true (length out - w .written) (takes e) k, l)))
         (λ k. (
@@ -139,7 +139,7 @@ module _ (g : Geometry) (log out₀ : List ℕ) (m₀ : Machine) where
         ))
 
     -- the same of what the code has
-    module _ (b : Bytes log) (r : Went) (cells cache counts out₁ : List ℕ) (t : turned r (machine (stateAfter w r) cells cache counts) out₁ ≡ turnOf g (stepping g) w (nextOf log (w .at)) m out) where
+    module _ (b : Bytes log) (r : Went) (cells cache counts out₁ : List ℕ) (t : turned r (machine (stateAfter w r) cells cache counts) out₁ ≡ turnOf g (unitwise g) w (nextOf log (w .at)) m out) where
       left-as : Left (nextOf log (w .at)) r (machine (stateAfter w r) cells cache counts) out₁
       left-as = subst⁻¹ (LeftBy (nextOf log (w .at))) t (turn-leaves b (nextOf log (w .at)) refl)
 
@@ -154,7 +154,7 @@ module _ (g : Geometry) (log out₀ : List ℕ) (m₀ : Machine) where
   pub judged-none : (k : Refusal) → k ≡ checkedAs g m₀ → passed k ≡ false → Told k (startOf (m₀ .state)) (starts (m₀ .state)) m₀ out₀
   unfolding orderly runOf
   judged-none k p q =
-      let b : runOf g (stepping g) (length out₀) log m₀ ≡ did g (stepping g) m₀ (checkedAs g m₀) [] = rw (← p, q) in
+      let b : runOf g (unitwise g) (length out₀) log m₀ ≡ did g (unitwise g) m₀ (checkedAs g m₀) [] = rw (← p, q) in
       let o : starts (m₀ .state) ≡ starts (m₀ .state) && orderly g m₀ (recordsDone handed (endOf handed)) = rw b (sym (and-true (starts (m₀ .state)))) in
-      ap (λ (e : End). record { end = e; orderly = starts (m₀ .state) && idle (e .answer .state) }) (run-refused g (stepping g) out₀ m₀ (length out₀) log k p q)
+      ap (λ (e : End). record { end = e; orderly = starts (m₀ .state) && idle (e .answer .state) }) (run-refused g (unitwise g) out₀ m₀ (length out₀) log k p q)
       ∙ ap (λ (x : Bool). record { end = endOf handed; orderly = x && idle (endOf handed .answer .state) }) o

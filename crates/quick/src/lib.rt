@@ -4,7 +4,7 @@ ghost use lib.ListN.{length};
 ghost use Rattle.part.specs.Part.{Sound};
 ghost use Rattle.buslog.specs.Read.{parse};
 ghost use Rattle.device.specs.Machine.{machine};
-ghost use Rattle.device.specs.Work.{stepping};
+ghost use Rattle.device.specs.Work.{unitwise};
 ghost use Rattle.kept.specs.Kept.{SoundMachine};
 ghost use Rattle.walk.specs.Turns.{answered};
 ghost use Rattle.model.specs.Runs.{ranOf, runOf, seen, shown};
@@ -43,7 +43,7 @@ fn go(
     requires { ⌜ (Sound g) × (SoundMachine g (machine state (now cells) (now cache) (now counts))) ⌝ }
     ensures { λ r.
         ⌜ seen r (now (cells .exit)) (now (cache .exit)) (now (counts .exit)) (now (out .exit))
-        ≡ shown (ranOf g (stepping g) (length (now (out .entry))) (parse (now (log .entry))) (machine state (now (cells .entry)) (now (cache .entry)) (now (counts .entry)))) (now (out .entry)) ⌝ }
+        ≡ shown (ranOf g (unitwise g) (length (now (out .entry))) (parse (now (log .entry))) (machine state (now (cells .entry)) (now (cache .entry)) (now (counts .entry)))) (now (out .entry)) ⌝ }
 {
     let mut s = state;
     let mut at = 0;
@@ -89,7 +89,7 @@ pub fn run(
 ) -> Answer
     ensures { λ r.
         ⌜ seen r (now (cells .exit)) (now (cache .exit)) (now (counts .exit)) (now (out .exit))
-        ≡ shown (runOf g (stepping g) (length (now (out .entry))) (now (log .entry)) (machine state (now (cells .entry)) (now (cache .entry)) (now (counts .entry)))) (now (out .entry)) ⌝ }
+        ≡ shown (runOf g (unitwise g) (length (now (out .entry))) (now (log .entry)) (machine state (now (cells .entry)) (now (cache .entry)) (now (counts .entry)))) (now (out .entry)) ⌝ }
 {
     let k = refusals::check(g, state, cells.len(), cache.len(), counts.len());
     if !refusals::passes(k) {

@@ -10,7 +10,7 @@ use Rattle.buslog.specs.Log.{bytesOf, levelSound}
 use Rattle.buslog.specs.Read.{parse}
 use Rattle.buslog.specs.declared.Record.{Record}
 use Rattle.device.specs.Machine.{Machine, machine}
-use Rattle.device.specs.Work.{Array, stepping}
+use Rattle.device.specs.Work.{Array, unitwise}
 use Rattle.face.specs.Face.{partOf, stateOf, faceOf}
 use Rattle.face.specs.declared.Told.{Told}
 use Rattle.face.specs.declared.Told.the-variants.{Good, Bad}
@@ -38,5 +38,5 @@ unfolding faceRan
 any-output g c e cells cache counts out free = go (stateOf c)
   where
     go : (x : Told) → unheard (ranTold g c x (bytesOf e) cells cache counts out) ≡ unheard (ranTold g c x (bytesOf e) cells cache counts [])
-    go (Good s) = ap (λ (o : Outcome). unheard (shownAs (faceOf (o .machine .state)) (shown o out))) (any-room (partOf g) (stepping (partOf g)) (length out) e (machine s cells cache counts) free)
+    go (Good s) = ap (λ (o : Outcome). unheard (shownAs (faceOf (o .machine .state)) (shown o out))) (any-room (partOf g) (unitwise (partOf g)) (length out) e (machine s cells cache counts) free)
     go Bad = refl

@@ -8,7 +8,7 @@ use lib.ListN.{length}
 use Rattle.part.specs.Part.{page, rows, soundPart}
 use Rattle.part.specs.declared.Geometry.{Geometry}
 use Rattle.device.specs.Machine.{machine}
-use Rattle.device.specs.Work.{stepping}
+use Rattle.device.specs.Work.{unitwise}
 use Rattle.device.specs.declared.State.{State}
 use Rattle.face.specs.Face.{partOf, stateOf, noState, standIn, handedBack}
 use Rattle.face.specs.declared.CGeometry.{CGeometry}
@@ -60,14 +60,14 @@ bad-exactly g cells cache counts = rw (stops-at g cells cache counts) (go (sound
 
 -- so a run of it does nothing
 pub not-run : (g : Geometry) (room : ℕ) (log cells cache counts out : List ℕ) →
-    shown (runOf g (stepping g) room log (machine noState cells cache counts)) out
+    shown (runOf g (unitwise g) room log (machine noState cells cache counts)) out
     ≡ model.seen (nothing (checkOf g noState (length cells) (length cache) (length counts)) noState) cells cache counts out
 not-run g room log cells cache counts out =
-    sym (run-refused g (stepping g) out (machine noState cells cache counts) room log (checkOf g noState (length cells) (length cache) (length counts)) refl (stops g (length cells) (length cache) (length counts)))
+    sym (run-refused g (unitwise g) out (machine noState cells cache counts) room log (checkOf g noState (length cells) (length cache) (length counts)) refl (stops g (length cells) (length cache) (length counts)))
 
 -- nor does work
 not-worked : (g : Geometry) (n : ℕ) (cells cache counts : List ℕ) →
-    shown (workOf g (stepping g) n (machine noState cells cache counts)) []
+    shown (workOf g (unitwise g) n (machine noState cells cache counts)) []
     ≡ model.seen (nothing (checkOf g noState (length cells) (length cache) (length counts)) noState) cells cache counts []
 not-worked g n cells cache counts =
     sym (work-refused g n (machine noState cells cache counts) (checkOf g noState (length cells) (length cache) (length counts)) refl (stops g (length cells) (length cache) (length counts)))
@@ -84,7 +84,7 @@ judgedRight x c j = record { end = putRight x c (j .end); orderly = orderlyOf x 
 
 module _ (g : CGeometry) (c : CState) (log cells cache counts out : List ℕ) where
   ran-right : (x : Told) →
-      putRight x c (shown (runOf (partOf g) (stepping (partOf g)) (length out) log (machine (standIn x) cells cache counts)) out) ≡ ranTold g c x log cells cache counts out
+      putRight x c (shown (runOf (partOf g) (unitwise (partOf g)) (length out) log (machine (standIn x) cells cache counts)) out) ≡ ranTold g c x log cells cache counts out
   ran-right (Good s) = refl
   ran-right Bad = ap (putRight Bad c) (not-run (partOf g) (length out) log cells cache counts out)
 
@@ -93,13 +93,13 @@ module _ (g : CGeometry) (c : CState) (log cells cache counts out : List ℕ) wh
   judged-right Bad = ap (λ (e : CEnd). record { end = e; orderly = false }) (ran-right Bad)
 
 worked-right : (g : CGeometry) (c : CState) (n : ℕ) (cells cache counts : List ℕ) (x : Told) →
-    unheard (putRight x c (shown (workOf (partOf g) (stepping (partOf g)) n (machine (standIn x) cells cache counts)) [])) ≡ workedTold g c x n cells cache counts
+    unheard (putRight x c (shown (workOf (partOf g) (unitwise (partOf g)) n (machine (standIn x) cells cache counts)) [])) ≡ workedTold g c x n cells cache counts
 worked-right g c n cells cache counts (Good s) = refl
 worked-right g c n cells cache counts Bad = ap (λ (e : End). unheard (putRight Bad c e)) (not-worked (partOf g) n cells cache counts)
 
 -- so it is with a call's own part and state
 module _ (g : CGeometry) (c : CState) (log cells cache counts out : List ℕ) {x : Told} {p : Geometry} {s : State} (hx : x ≡ stateOf c) (hp : p ≡ partOf g) (hs : s ≡ standIn x) where
-  pub as-ran : {e : End} → e ≡ shown (runOf p (stepping p) (length out) log (machine s cells cache counts)) out → putRight x c e ≡ faceRan g c log cells cache counts out
+  pub as-ran : {e : End} → e ≡ shown (runOf p (unitwise p) (length out) log (machine s cells cache counts)) out → putRight x c e ≡ faceRan g c log cells cache counts out
   unfolding faceRan
   as-ran h = rw (h, hs, hp, hx) (ran-right g c log cells cache counts out (stateOf c))
 
@@ -108,11 +108,11 @@ module _ (g : CGeometry) (c : CState) (log cells cache counts out : List ℕ) {x
   as-judged h = rw (h, hs, hp, hx) (judged-right g c log cells cache counts out (stateOf c))
 
   -- with no log in between
-  pub as-exchanged : {e : End} → e ≡ unlogged (shown (runOf p (stepping p) (length out) log (machine s cells cache counts)) out) → putRight x c e ≡ faceUnlogged (faceRan g c log cells cache counts out)
-  as-exchanged h = ap (putRight x c) h ∙ ap faceUnlogged (as-ran {e = shown (runOf p (stepping p) (length out) log (machine s cells cache counts)) out} refl)
+  pub as-exchanged : {e : End} → e ≡ unlogged (shown (runOf p (unitwise p) (length out) log (machine s cells cache counts)) out) → putRight x c e ≡ faceUnlogged (faceRan g c log cells cache counts out)
+  as-exchanged h = ap (putRight x c) h ∙ ap faceUnlogged (as-ran {e = shown (runOf p (unitwise p) (length out) log (machine s cells cache counts)) out} refl)
 
 -- and with work
 pub as-worked : (g : CGeometry) (c : CState) (n : ℕ) (cells cache counts : List ℕ) {x : Told} {p : Geometry} {s : State} → x ≡ stateOf c → p ≡ partOf g → s ≡ standIn x
-    → {e : End} → e ≡ shown (workOf p (stepping p) n (machine s cells cache counts)) [] → unheard (putRight x c e) ≡ workedOf g c n cells cache counts
+    → {e : End} → e ≡ shown (workOf p (unitwise p) n (machine s cells cache counts)) [] → unheard (putRight x c e) ≡ workedOf g c n cells cache counts
 unfolding workedOf
 as-worked g c n cells cache counts hx hp hs h = rw (h, hs, hp, hx) (worked-right g c n cells cache counts (stateOf c))

@@ -7,7 +7,7 @@ use Rattle.part.specs.declared.Geometry.{Geometry}
 use Rattle.buslog.specs.Log.{written}
 use Rattle.buslog.specs.declared.Record.{Record}
 use Rattle.device.specs.Machine.{machine}
-use Rattle.device.specs.Work.{stepping}
+use Rattle.device.specs.Work.{unitwise}
 use Rattle.face.specs.Face.{partOf, stateOf, faceOf, noState}
 use Rattle.face.specs.declared.CGeometry.{CGeometry}
 use Rattle.face.specs.declared.CState.{CState}
@@ -59,7 +59,7 @@ faceNothing refusal c = record { state = c; records = 0; used = 0; written = 0; 
 -- a state goes through the model; where there is none, nothing is done
 abbrev pub ranTold : CGeometry → CState → Told → List ℕ → List ℕ → List ℕ → List ℕ → List ℕ → CEnd
 ranTold g c (Good s) log cells cache counts out =
-    let e = shown (runOf (partOf g) (stepping (partOf g)) (length out) log (machine s cells cache counts)) out in
+    let e = shown (runOf (partOf g) (unitwise (partOf g)) (length out) log (machine s cells cache counts)) out in
     shownAs (faceOf (e .answer .state)) e
 ranTold g c Bad log cells cache counts out =
     faceSeen (faceNothing (checkBad (partOf g) (length cells) (length cache) (length counts)) c) cells cache counts out
@@ -110,7 +110,7 @@ exchangedOf g c es cells cache counts out = faceUnlogged (faceRan g c (written e
 -- a state works; where there is none, nothing is done
 abbrev pub workedTold : CGeometry → CState → Told → ℕ → List ℕ → List ℕ → List ℕ → CQuiet
 workedTold g c (Good s) n cells cache counts =
-    let e = shown (workOf (partOf g) (stepping (partOf g)) n (machine s cells cache counts)) [] in
+    let e = shown (workOf (partOf g) (unitwise (partOf g)) n (machine s cells cache counts)) [] in
     unheard (shownAs (faceOf (e .answer .state)) e)
 workedTold g c Bad n cells cache counts = quiet (faceNothing (checkBad (partOf g) (length cells) (length cache) (length counts)) c) cells cache counts
 

@@ -6,7 +6,7 @@ ghost use Rattle.part.specs.Part.{Sound};
 ghost use Rattle.buslog.specs.Read.{nextOf};
 ghost use Rattle.buslog.specs.Write.{over};
 ghost use Rattle.device.specs.Machine.{machine};
-ghost use Rattle.device.specs.Work.{stepping};
+ghost use Rattle.device.specs.Work.{unitwise};
 ghost use Rattle.device.specs.Step.{step, pinsOf};
 ghost use Rattle.kept.specs.Kept.{SoundMachine};
 ghost use Rattle.walk.specs.Turns.{takes, puts, startOf, answered, Stands, turned, stateAfter, turnOf};
@@ -102,7 +102,7 @@ pub fn turn(
 ) -> State
     requires { ⌜ (Sound g) × (SoundMachine g (machine s (now cells) (now cache) (now counts))) × (at + takes e ≤ length (now out)) ⌝ }
     ensures { λ r.
-        ⌜ (machine r (now (cells .exit)) (now (cache .exit)) (now (counts .exit)) ≡ step g (stepping g) (machine s (now (cells .entry)) (now (cache .entry)) (now (counts .entry))) e)
+        ⌜ (machine r (now (cells .exit)) (now (cache .exit)) (now (counts .exit)) ≡ step g (unitwise g) (machine s (now (cells .entry)) (now (cache .entry)) (now (counts .entry))) e)
         × (now (out .exit) ≡ over (now (out .entry)) at (puts g (machine s (now (cells .entry)) (now (cache .entry)) (now (counts .entry))) e)) ⌝ }
 {
     match e {
@@ -133,7 +133,7 @@ pub fn onward(
     requires { ⌜ (Sound g) × (SoundMachine g (machine (w .state) (now cells) (now cache) (now counts))) × (Stands w (now log) (now out)) ⌝ }
     ensures { λ r.
         ⌜ turned r (machine (stateAfter w r) (now (cells .exit)) (now (cache .exit)) (now (counts .exit))) (now (out .exit))
-        ≡ turnOf g (stepping g) w (nextOf (now (log .entry)) (w .at)) (machine (w .state) (now (cells .entry)) (now (cache .entry)) (now (counts .entry))) (now (out .entry)) ⌝ }
+        ≡ turnOf g (unitwise g) w (nextOf (now (log .entry)) (w .at)) (machine (w .state) (now (cells .entry)) (now (cache .entry)) (now (counts .entry))) (now (out .entry)) ⌝ }
 {
     match buslog::next_at(log, w.at) {
         Next::Stop(why) => Went::Off(refusals::refusal_of(why)),

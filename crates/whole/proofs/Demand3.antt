@@ -17,7 +17,7 @@ use Rattle.buslog.specs.declared.Record.{Record}
 use Rattle.array.specs.declared.Work.{Work}
 use Rattle.array.specs.declared.Work.the-variants.{Idle, Busy}
 use Rattle.device.specs.Machine.{Machine}
-use Rattle.device.specs.Work.{stepping}
+use Rattle.device.specs.Work.{unitwise}
 use Rattle.device.specs.Step.{run}
 use Rattle.kept.specs.Kept.{SoundMachine, BytesIn}
 use Rattle.refusals.specs.Refusals.{numberOf, refusalOf, passed, checkedAs}
@@ -53,12 +53,12 @@ module _ (g : Geometry) (room : ℕ) (log : List ℕ) (m : Machine) where
   pub record Both : Type 0 where
     pub why : Refusal
     pub es : List Record
-    pub stepped : runOf g (stepping g) room log m ≡ did g (stepping g) m why es
+    pub stepped : runOf g (unitwise g) room log m ≡ did g (unitwise g) m why es
     pub whole-did : runOf g (whole g) room log (settled g m) ≡ did g (whole g) (settled g m) why es
     pub read : take (length es) (parse log .records) ≡ es
-    pub end : T (orderly g m es) → finish g (run g (stepping g) m es) ≡ run g (whole g) (settled g m) es
-    pub out : T (orderly g m es) → Agree (asked g (stepping g) m es) (bytesOut g (stepping g) m es) (bytesOut g (whole g) (settled g m) es)
-    pub questions : T (orderly g m es) → asked g (stepping g) m es ≡ asked g (whole g) (settled g m) es
+    pub end : T (orderly g m es) → finish g (run g (unitwise g) m es) ≡ run g (whole g) (settled g m) es
+    pub out : T (orderly g m es) → Agree (asked g (unitwise g) m es) (bytesOut g (unitwise g) m es) (bytesOut g (whole g) (settled g m) es)
+    pub questions : T (orderly g m es) → asked g (unitwise g) m es ≡ asked g (whole g) (settled g m) es
 
   -- where the checks hold
   both-fine : Bytes log → T (starts (m .state)) → Fine g m → Both
@@ -72,11 +72,11 @@ module _ (g : Geometry) (room : ℕ) (log : List ℕ) (m : Machine) where
       record {
         why = if ltb room (shiftsIn (parse log .records)) then NoRoom else refusalOf (parse log .why);
         es = es;
-        stepped = is-fine g (stepping g) room log m f;
+        stepped = is-fine g (unitwise g) room log m f;
         whole-did = is-fine g (whole g) room log (settled g m) (fine-of g (settled g m) p (subst (SoundMachine g) q (finish-sound g p m k)));
         read = fitting-first room (parse log .records);
         end = λ o. end-follows g p es m k b o ∙ ap (λ (x : Machine). run g (whole g) x es) q;
-        out = λ o. subst (λ (x : Machine). Agree (asked g (stepping g) m es) (bytesOut g (stepping g) m es) (bytesOut g (whole g) x es)) q (out-follows g p es m k b o);
+        out = λ o. subst (λ (x : Machine). Agree (asked g (unitwise g) m es) (bytesOut g (unitwise g) m es) (bytesOut g (whole g) x es)) q (out-follows g p es m k b o);
         questions = λ o. asked-follows g p es m k b o ∙ ap (λ (x : Machine). asked g (whole g) x es) q;
       }
 
@@ -95,11 +95,11 @@ module _ (g : Geometry) (room : ℕ) (log : List ℕ) (m : Machine) where
         questions = λ o. refl;
       }
 
-  pub both : Bytes log → T (starts (m .state)) → T (idle (runOf g (stepping g) room log m .machine .state)) → Both
+  pub both : Bytes log → T (starts (m .state)) → T (idle (runOf g (unitwise g) room log m .machine .state)) → Both
   unfolding runOf run
   both h t i = go (passed (checkedAs g m)) refl i
     where
-      go : (b : Bool) → passed (checkedAs g m) ≡ b → T (idle ((if b then ranOf g (stepping g) room (parse log) m else did g (stepping g) m (checkedAs g m) []) .machine .state)) → Both
+      go : (b : Bool) → passed (checkedAs g m) ≡ b → T (idle ((if b then ranOf g (unitwise g) room (parse log) m else did g (unitwise g) m (checkedAs g m) []) .machine .state)) → Both
       go true e i = both-fine h t (fine g m e)
       go false e i = both-refused i e
 
@@ -110,10 +110,10 @@ all-done i h e r z =
     let g = i .part in
     let room = length (i .out) in
     let m = machineOf i in
-    let l = ended g room (i .log) m (exactly g (stepping g) room (i .log) h m 0 .0 (subst (λ (x : End). numberOf (x .answer .refusal) ≡ 0) r z)) in
+    let l = ended g room (i .log) m (exactly g (unitwise g) room (i .log) h m 0 .0 (subst (λ (x : End). numberOf (x .answer .refusal) ≡ 0) r z)) in
     let p : parse (i .log) .records ≡ l .1 .earlier = ap (λ (x : Parsed). x .records) (stops-parse (i .log) room why.End (l .1)) in
     ap (λ (x : End). take (x .answer .records) (parse (i .log) .records)) r
-    ∙ ap (λ (x : Outcome). take (x .records) (parse (i .log) .records)) (is-stop g (stepping g) room (i .log) m (l .0) why.End (l .1))
+    ∙ ap (λ (x : Outcome). take (x .records) (parse (i .log) .records)) (is-stop g (unitwise g) room (i .log) m (l .0) why.End (l .1))
     ∙ rw p (take-length (l .1 .earlier)) ∙ sym p
 
 -- ---- in the words of the demand
@@ -128,7 +128,7 @@ module _ (i : Given) (h : Bytes (i .log)) (e : End) (r : Ran i e) (t : T (suppos
   abbrev in-order : Bool
   in-order = orderly part (machineOf i) (recordsDone i e)
 
-  ends-idle : T (idle (runOf part (stepping part) (length (i .out)) (i .log) (machineOf i) .machine .state))
+  ends-idle : T (idle (runOf part (unitwise part) (length (i .out)) (i .log) (machineOf i) .machine .state))
   ends-idle = subst (λ (x : End). T (idle (x .answer .state))) r (and-r (starts-well && in-order) (idle (e .answer .state)) t)
 
   pub agreed : Both part (length (i .out)) (i .log) (machineOf i)
@@ -143,28 +143,28 @@ module _ (i : Given) (h : Bytes (i .log)) (e : End) (r : Ran i e) (t : T (suppos
       subst (λ (x : List Record). T (orderly part (machineOf i) x)) done-read
       (and-r starts-well in-order (and-l (starts-well && in-order) (idle (e .answer .state)) t))
 
-  one-machine : run part (stepping part) (machineOf i) (agreed .es) ≡ wholly i .machine
+  one-machine : run part (unitwise part) (machineOf i) (agreed .es) ≡ wholly i .machine
   one-machine =
       sym (idle-finish part _ (subst (λ (x : Outcome). T (idle (x .machine .state))) (agreed .stepped) ends-idle))
       ∙ agreed .end keeps-order ∙ sym (ap (λ (x : Outcome). x .machine) (agreed .whole-did))
 
   -- what is said of the machine of the end
-  of-machine : {A : Type 0} (f : Machine → A) → f (runOf part (stepping part) (length (i .out)) (i .log) (machineOf i) .machine) ≡ f (wholly i .machine)
+  of-machine : {A : Type 0} (f : Machine → A) → f (runOf part (unitwise part) (length (i .out)) (i .log) (machineOf i) .machine) ≡ f (wholly i .machine)
   of-machine f = ap f (ap (λ (x : Outcome). x .machine) (agreed .stepped) ∙ one-machine)
 
   -- what is said of a run but for its machine and its output
-  of-numbers : {A : Type 0} (f : Refusal → ℕ → ℕ → A) → (let o = runOf part (stepping part) (length (i .out)) (i .log) (machineOf i) in f (o .refusal) (o .records) (o .used)) ≡ (let o = wholly i in f (o .refusal) (o .records) (o .used))
+  of-numbers : {A : Type 0} (f : Refusal → ℕ → ℕ → A) → (let o = runOf part (unitwise part) (length (i .out)) (i .log) (machineOf i) in f (o .refusal) (o .records) (o .used)) ≡ (let o = wholly i in f (o .refusal) (o .records) (o .used))
   of-numbers f = rw (agreed .stepped, agreed .whole-did)
 
   abbrev questions : List Bool
-  questions = asked part (stepping part) (machineOf i) (recordsDone i e)
+  questions = asked part (unitwise part) (machineOf i) (recordsDone i e)
 
   abbrev bytes : List ℕ
-  bytes = runOf part (stepping part) (length (i .out)) (i .log) (machineOf i) .output
+  bytes = runOf part (unitwise part) (length (i .out)) (i .log) (machineOf i) .output
 
   out-agrees : Agree questions bytes (wholly i .output)
   out-agrees =
-      agree-by (ap (asked part (stepping part) (machineOf i)) done-read) (ap (λ (x : Outcome). x .output) (agreed .stepped)) (ap (λ (x : Outcome). x .output) (agreed .whole-did))
+      agree-by (ap (asked part (unitwise part) (machineOf i)) done-read) (ap (λ (x : Outcome). x .output) (agreed .stepped)) (ap (λ (x : Outcome). x .output) (agreed .whole-did))
       (agreed .out keeps-order)
 
   out-at : (n : ℕ) → n < length bytes → getD questions n false ≡ false → getD (e .out) n 0 ≡ getD (wholly i .output) n 0

@@ -8,7 +8,7 @@ use Rattle.buslog.specs.Read.{front, parseAfter}
 use Rattle.buslog.specs.Write.{over}
 use Rattle.transfer.specs.Transfer.{instructionOf, selects, shiftedIn, cached}
 use Rattle.array.specs.Jobs as jobs
-use Rattle.device.specs.Work.{unitOf, units, stepping}
+use Rattle.device.specs.Work.{unitOf, units, unitwise}
 use Rattle.requests.specs.Requests.{programFate, eraseFate}
 use Rattle.device.specs.Instructions.{shifts, answer, programs, erases, resets, effect, acted, deselects}
 use Rattle.device.specs.Step.{off, powered, step, run}
@@ -21,5 +21,5 @@ use Rattle.whole.specs.Demand.{settled}
 use Rattle.whole.specs.Examples.{rows, NoneToSpare}
 
 pub none-to-spare : NoneToSpare
-unfolding rows soundPart protects register registerWritten written front parseAfter over instructionOf selects shiftedIn cached jobs.written unitOf units stepping shifts answer programFate eraseFate programs erases resets effect acted deselects off powered step run soundState checkOf shiftsIn fitting bytesOut ranOf runOf ands pageOf done whole orderly settled
+unfolding rows soundPart protects register registerWritten written front parseAfter over instructionOf selects shiftedIn cached jobs.written unitOf units unitwise shifts answer programFate eraseFate programs erases resets effect acted deselects off powered step run soundState checkOf shiftsIn fitting bytesOut ranOf runOf ands pageOf done whole orderly settled
 none-to-spare = refl

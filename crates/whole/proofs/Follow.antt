@@ -18,7 +18,7 @@ use Rattle.array.specs.declared.Work.{Work}
 use Rattle.array.specs.declared.Work.the-variants.{Idle, Busy}
 use Rattle.transfer.specs.Transfer.{is, bodyHeard}
 use Rattle.device.specs.Machine.{Machine, withWork, statusIn, workIn}
-use Rattle.device.specs.Work.{stepping}
+use Rattle.device.specs.Work.{unitwise}
 use Rattle.device.specs.Instructions.{answer}
 use Rattle.device.specs.Step.{step, run}
 use Rattle.device.specs.declared.State.{State}
@@ -50,7 +50,7 @@ answer-same g s c w l l′ q h =
     (λ e₁. cond-two (λ (x y : ℕ). x ≡ y) (is t 0x9F) (λ e₂. refl)
     (λ e₂. rw (let-in-not t 0x03 refl refl refl refl (body-let-in (s .bus) q (not-false (bodyHeard (s .bus)) e))))))
 
--- so the stepping machine and the same worked to its end answer the same
+-- so the unitwise machine and the same worked to its end answer the same
 shows : (g : Geometry) (m : Machine) → SoundMachine g m → ofStatus (m .state .bus) ≡ false → answer g (m .state) (m .store .cache) ≡ answer g (finish g m .state) (finish g m .store .cache)
 shows g m h q = go (m .state .work) m h q
   where
@@ -93,11 +93,11 @@ agree-at (q ∷ qs) (x ∷ xs) (y ∷ ys) a zero h e = a .0 e
 agree-at (q ∷ qs) (x ∷ xs) (y ∷ ys) a (suc n) h e = agree-at qs xs ys (a .1) n (omega arith) e
 
 module _ (g : Geometry) (s : Sound g) where
-  pub end-follows : (es : List Record) (m : Machine) → SoundMachine g m → BytesIn es → T (orderly g m es) → finish g (run g (stepping g) m es) ≡ run g (whole g) (finish g m) es
+  pub end-follows : (es : List Record) (m : Machine) → SoundMachine g m → BytesIn es → T (orderly g m es) → finish g (run g (unitwise g) m es) ≡ run g (whole g) (finish g m) es
   unfolding run orderly
   end-follows [] m h b o = refl
   end-follows (e ∷ es) m h b o =
-      end-follows es (step g (stepping g) m e) (step-keeps g s m e (b .0) h) (b .1) (and-r (allowed (m .state) e) _ o)
+      end-follows es (step g (unitwise g) m e) (step-keeps g s m e (b .0) h) (b .1) (and-r (allowed (m .state) e) _ o)
       ∙ ap (λ (x : Machine). run g (whole g) x es) (follows g s m h e (and-l (allowed (m .state) e) _ o))
 
   -- what one record puts out, before what the others do
@@ -110,14 +110,14 @@ module _ (g : Geometry) (s : Sound g) where
   puts-agree (Level v) m h qs xs ys a = a
   puts-agree Power m h qs xs ys a = a
 
-  pub out-follows : (es : List Record) (m : Machine) → SoundMachine g m → BytesIn es → T (orderly g m es) → Agree (asked g (stepping g) m es) (bytesOut g (stepping g) m es) (bytesOut g (whole g) (finish g m) es)
+  pub out-follows : (es : List Record) (m : Machine) → SoundMachine g m → BytesIn es → T (orderly g m es) → Agree (asked g (unitwise g) m es) (bytesOut g (unitwise g) m es) (bytesOut g (whole g) (finish g m) es)
   unfolding orderly asked bytesOut Agree
   out-follows [] m h b o = tt
   out-follows (e ∷ es) m h b o =
       puts-agree e m h _ _ _
-      (subst (λ (x : Machine). Agree (asked g (stepping g) (step g (stepping g) m e) es) (bytesOut g (stepping g) (step g (stepping g) m e) es) (bytesOut g (whole g) x es))
+      (subst (λ (x : Machine). Agree (asked g (unitwise g) (step g (unitwise g) m e) es) (bytesOut g (unitwise g) (step g (unitwise g) m e) es) (bytesOut g (whole g) x es))
       (follows g s m h e (and-l (allowed (m .state) e) _ o))
-      (out-follows es (step g (stepping g) m e) (step-keeps g s m e (b .0) h) (b .1) (and-r (allowed (m .state) e) _ o)))
+      (out-follows es (step g (unitwise g) m e) (step-keeps g s m e (b .0) h) (b .1) (and-r (allowed (m .state) e) _ o)))
 
   -- which shifts answer the status is the same in both runs
   asks-same : (e : Record) (m : Machine) → asks m e ≡ asks (finish g m) e
@@ -132,10 +132,10 @@ module _ (g : Geometry) (s : Sound g) where
   asks-same (Level v) m = refl
   asks-same Power m = refl
 
-  pub asked-follows : (es : List Record) (m : Machine) → SoundMachine g m → BytesIn es → T (orderly g m es) → asked g (stepping g) m es ≡ asked g (whole g) (finish g m) es
+  pub asked-follows : (es : List Record) (m : Machine) → SoundMachine g m → BytesIn es → T (orderly g m es) → asked g (unitwise g) m es ≡ asked g (whole g) (finish g m) es
   unfolding orderly asked
   asked-follows [] m h b o = refl
   asked-follows (e ∷ es) m h b o =
       ap₂ (λ (x y : List Bool). x ++ y) (asks-same e m)
-      (asked-follows es (step g (stepping g) m e) (step-keeps g s m e (b .0) h) (b .1) (and-r (allowed (m .state) e) _ o)
+      (asked-follows es (step g (unitwise g) m e) (step-keeps g s m e (b .0) h) (b .1) (and-r (allowed (m .state) e) _ o)
       ∙ ap (λ (x : Machine). asked g (whole g) x es) (follows g s m h e (and-l (allowed (m .state) e) _ o)))

@@ -10,7 +10,7 @@ use Rattle.buslog.specs.Log.{Bytes}
 use Rattle.buslog.specs.declared.Record.{Record}
 use Rattle.buslog.specs.declared.Record.the-variants.{Select, Shift, Deselect, Units, Level, Power}
 use Rattle.device.specs.Machine.{Machine}
-use Rattle.device.specs.Work.{stepping}
+use Rattle.device.specs.Work.{unitwise}
 use Rattle.device.specs.Step.{step, run}
 use Rattle.walk.specs.Turns.{puts}
 use Rattle.model.specs.Runs.{bytesOut, Outcome, End}
@@ -73,9 +73,9 @@ module _ (i : Given) (h : Bytes (i .log)) (e : End) (r : Ran i e) (t : T (suppos
   puts-out : wholly i .output ≡ bytesOut part (whole part) start bus
   puts-out = ap (λ (x : Outcome). x .output) (agreed i h e r t .whole-did) ∙ bus-out part (agreed i h e r t .es) start ∙ ap (bytesOut part (whole part) start) bus-es
 
-  asks-at : asked part (stepping part) (machineOf i) (recordsDone i e) ≡ asked part (whole part) start bus
+  asks-at : asked part (unitwise part) (machineOf i) (recordsDone i e) ≡ asked part (whole part) start bus
   asks-at =
-      ap (asked part (stepping part) (machineOf i)) (done-read i h e r t) ∙ agreed i h e r t .questions (keeps-order i h e r t)
+      ap (asked part (unitwise part) (machineOf i)) (done-read i h e r t) ∙ agreed i h e r t .questions (keeps-order i h e r t)
       ∙ bus-asked part (agreed i h e r t .es) start ∙ ap (asked part (whole part) start) bus-es
 
 -- ---- the two together
@@ -89,7 +89,7 @@ however i b h k e f r q same t u =
     let y : SameEnd j f = same-end j k f q u in
     let one : wholly i .machine ≡ wholly j .machine = ends-at i h e r t ∙ ap (run g (whole g) m) same ∙ sym (ends-at j k f q u) in
     let put : wholly i .output ≡ wholly j .output = puts-out i h e r t ∙ ap (bytesOut g (whole g) m) same ∙ sym (puts-out j k f q u) in
-    let ask : asked g (stepping g) (machineOf i) (recordsDone i e) ≡ asked g (stepping g) (machineOf j) (recordsDone j f) = asks-at i h e r t ∙ ap (asked g (whole g) m) same ∙ sym (asks-at j k f q u) in
+    let ask : asked g (unitwise g) (machineOf i) (recordsDone i e) ≡ asked g (unitwise g) (machineOf j) (recordsDone j f) = asks-at i h e r t ∙ ap (asked g (whole g) m) same ∙ sym (asks-at j k f q u) in
     let long : e .answer .written ≡ f .answer .written = x .written ∙ ap length put ∙ sym (y .written) in
     record {
       state = x .state ∙ ap (λ (m : Machine). m .state) one ∙ sym (y .state);

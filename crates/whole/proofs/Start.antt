@@ -1,4 +1,4 @@
--- The start: the power-up state exactly, and the whole run's beginning is the stepping one's with its operation worked to its end.
+-- The start: the power-up state exactly, and the whole run's beginning is the unitwise one's with its operation worked to its end.
 use mathlib.Core.Bool.{Bool, false, not, _&&_}
 use mathlib.Core.List.{List}
 use mathlib.Core.Path.{_≡_, refl, ap, subst⁻¹}
@@ -19,7 +19,7 @@ use Rattle.transfer.specs.Transfer.{byteOf, fresh}
 use Rattle.transfer.specs.declared.Transfer.{Transfer}
 use Rattle.transfer.specs.declared.Instruction.{Instruction}
 use Rattle.device.specs.Machine.{Machine, withState, withStore, withWork}
-use Rattle.device.specs.Work.{ended, stepping}
+use Rattle.device.specs.Work.{ended, unitwise}
 use Rattle.device.specs.Step.{off, powered, powerUp, step}
 use Rattle.device.specs.declared.State.{State}
 use Rattle.kept.specs.Kept.{SoundMachine}
@@ -106,7 +106,7 @@ start-finish g s m f t =
 -- ---- worked to its end, a sound machine is sound
 
 pub finish-sound : (g : Geometry) → Sound g → (m : Machine) → SoundMachine g m → SoundMachine g (finish g m)
-unfolding step stepping
+unfolding step unitwise
 finish-sound g s m h = go (m .state .work) m h
   where
     go : (w : Work) (m : Machine) → SoundMachine g (withWork w m) → SoundMachine g (finish g (withWork w m))

@@ -13,7 +13,7 @@ use Rattle.buslog.specs.Read.{parse}
 use Rattle.buslog.specs.declared.Record.{Record}
 use Rattle.buslog.specs.declared.Record.the-variants.{Select, Shift, Deselect, Units, Level, Power}
 use Rattle.device.specs.Machine.{Machine, machine}
-use Rattle.device.specs.Work.{stepping}
+use Rattle.device.specs.Work.{unitwise}
 use Rattle.device.specs.Step.{powered}
 use Rattle.device.specs.declared.State.{State}
 use Rattle.refusals.specs.Refusals.{numberOf}
@@ -43,7 +43,7 @@ machineOf i = machine (i .state) (i .cells) (i .cache) (i .counts)
 
 -- what `run` returns and leaves, by its contract
 abbrev pub endOf : Given → End
-endOf i = shown (runOf (i .part) (stepping (i .part)) (length (i .out)) (i .log) (machineOf i)) (i .out)
+endOf i = shown (runOf (i .part) (unitwise (i .part)) (length (i .out)) (i .log) (machineOf i)) (i .out)
 
 abbrev pub Ran : Given → End → Type 0
 Ran i e = e ≡ endOf i
@@ -71,7 +71,7 @@ pub record SameEnd (i : Given) (e : End) : Type 0 where
   pub records : e .answer .records ≡ wholly i .records
   pub used : e .answer .used ≡ wholly i .used
   pub written : e .answer .written ≡ length (wholly i .output)
-  pub output : (n : ℕ) → n < e .answer .written → getD (asked (i .part) (stepping (i .part)) (machineOf i) (recordsDone i e)) n false ≡ false
+  pub output : (n : ℕ) → n < e .answer .written → getD (asked (i .part) (unitwise (i .part)) (machineOf i) (recordsDone i e)) n false ≡ false
       → getD (e .out) n 0 ≡ getD (wholly i .output) n 0
 
 -- T6, for every input: with refusal 0 this is the tender's third demand; with another number it holds of the records done
@@ -113,7 +113,7 @@ pub record EndsAlike (i : Given) (e f : End) : Type 0 where
   pub cache : e .cache ≡ f .cache
   pub counts : e .counts ≡ f .counts
   pub written : e .answer .written ≡ f .answer .written
-  pub output : (n : ℕ) → n < e .answer .written → getD (asked (i .part) (stepping (i .part)) (machineOf i) (recordsDone i e)) n false ≡ false → getD (e .out) n 0 ≡ getD (f .out) n 0
+  pub output : (n : ℕ) → n < e .answer .written → getD (asked (i .part) (unitwise (i .part)) (machineOf i) (recordsDone i e)) n false ≡ false → getD (e .out) n 0 ≡ getD (f .out) n 0
 
 -- two orderly logs that differ only in their work records, both ending idle, have one end
 abbrev pub However : Type 0

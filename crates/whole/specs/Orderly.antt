@@ -14,7 +14,7 @@ use Rattle.transfer.specs.Transfer.{noByte, byteOf, instructionOf, open?, is, f
 use Rattle.transfer.specs.declared.Bus.{Bus}
 use Rattle.transfer.specs.declared.Transfer.{Transfer}
 use Rattle.device.specs.Machine.{Machine, busIn}
-use Rattle.device.specs.Work.{Array, stepping}
+use Rattle.device.specs.Work.{Array, unitwise}
 use Rattle.device.specs.Step.{powerUp, step}
 use Rattle.device.specs.declared.State.{State}
 
@@ -51,10 +51,10 @@ allowed s Select = true
 allowed s (Units n) = true
 allowed s (Level v) = true
 
--- records are orderly along the stepping run
+-- records are orderly along the unitwise run
 unfoldable pub orderly : Geometry → Machine → List Record → Bool
 orderly g m [] = true
-orderly g m (e ∷ es) = allowed (m .state) e && orderly g (step g (stepping g) m e) es
+orderly g m (e ∷ es) = allowed (m .state) e && orderly g (step g (unitwise g) m e) es
 
 -- ---- the start: at power-up, or idle
 

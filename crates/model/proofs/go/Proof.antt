@@ -5,7 +5,7 @@ use native.Mathlib.Omega.{arith}
 use borrow.Author.Needs.{needs}
 use lib.ListN.{length}
 use Rattle.device.specs.Machine.{machine}
-use Rattle.device.specs.Work.{stepping}
+use Rattle.device.specs.Work.{unitwise}
 use Rattle.kept.proofs.Steps.{step-keeps}
 use Rattle.model.proofs.Loop.{Going, going-start, out-long, stands, going-on, going-off}
 use Rattle.model.proofs.go.Statement.{statement}
@@ -13,7 +13,7 @@ use Rattle.model.proofs.go.Tie as tie
 
 abbrev Inv-loop : tie.InvT-loop
 Inv-loop g log cells₀ cache₀ counts₀ out₀ w₀ cells cache counts out w =
-    Going g (stepping g) log out₀ (machine (w₀ .state) cells₀ cache₀ counts₀) w out (machine (w .state) cells cache counts)
+    Going g (unitwise g) log out₀ (machine (w₀ .state) cells₀ cache₀ counts₀) w out (machine (w .state) cells cache counts)
 
 abbrev μ-loop : tie.MeasureT-loop
 μ-loop g log cells₀ cache₀ counts₀ out₀ w₀ cells cache counts out w = length log - w .at

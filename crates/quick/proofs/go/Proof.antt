@@ -5,7 +5,7 @@ use native.Mathlib.Omega.{arith}
 use borrow.Author.Needs.{needs}
 use lib.ListN.{length}
 use Rattle.device.specs.Machine.{machine}
-use Rattle.device.specs.Work.{stepping}
+use Rattle.device.specs.Work.{unitwise}
 use Rattle.kept.proofs.Steps.{step-keeps}
 use Rattle.model.proofs.Loop.{Going, going-start, going-ends, going-full, out-long, stands}
 use Rattle.quick.specs.Along.{walkAt}
@@ -15,7 +15,7 @@ use Rattle.quick.proofs.go.Tie as tie
 
 abbrev Inv-loop : tie.InvT-loop
 Inv-loop g log cells₀ cache₀ counts₀ out₀ s₀ at₀ records₀ written₀ cells cache counts out s at records written =
-    Going g (stepping g) log out₀ (machine s₀ cells₀ cache₀ counts₀) (walkAt s at records written) out (machine s cells cache counts)
+    Going g (unitwise g) log out₀ (machine s₀ cells₀ cache₀ counts₀) (walkAt s at records written) out (machine s cells cache counts)
 
 abbrev μ-loop : tie.MeasureT-loop
 μ-loop g log cells₀ cache₀ counts₀ out₀ s₀ at₀ records₀ written₀ cells cache counts out s at records written = length log - at

@@ -6,7 +6,7 @@ use denote.Ref.{now}
 use lib.ListN.{length}
 use Rattle.device.specs.declared.State.{State}
 use Rattle.device.specs.Machine.{machine}
-use Rattle.device.specs.Work.{stepping}
+use Rattle.device.specs.Work.{unitwise}
 use Rattle.device.specs.Step.{step}
 use Rattle.buslog.proofs.RoundTrip.{over-none, over-one}
 use Rattle.walk.proofs.Turns.{work-ready}
@@ -89,7 +89,7 @@ same-length-5 : tie.Need-same-length-5
 same-length-5 c = search needs
 
 returns-4 : tie.Need-returns-4
-unfolding step stepping
+unfolding step unitwise
 returns-4 c = rw (c .before .before .before .before .before .before .before .before .before .e2 .given .1, ← (c .before .before .before .before .before .before .before .wide-short .ensures)) (c .before .before .before .before .work .ensures (machine (c .before .before .before .before .before .before .before .before .before .before .before .before .before .before .before .args .s) (now (c .before .before .before .before .before .before .before .before .before .before .before .before .before .before .before .args .cells)) (now (c .before .before .before .before .before .before .before .before .before .before .before .before .before .before .before .args .cache)) (now (c .before .before .before .before .before .before .before .before .before .before .before .before .before .before .before .args .counts))), over-none (now (c .before .before .before .before .before .before .before .before .before .before .before .before .before .before .before .args .out)) (c .before .before .before .before .before .before .before .before .before .before .before .before .before .before .before .args .at))
 
 returns-5 : tie.Need-returns-5

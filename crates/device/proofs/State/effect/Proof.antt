@@ -3,7 +3,7 @@ use denote.Ref.{now}
 use Rattle.transfer.specs.declared.Instruction.{Instruction}
 use Rattle.device.specs.Machine.{onCounts}
 -- What each instruction does: the arm's instruction decides the definition.
-use Rattle.device.specs.Work.{stepping}
+use Rattle.device.specs.Work.{unitwise}
 use Rattle.device.specs.Instructions.{resets, effect}
 use borrow.Author.Needs.{needs}
 use Rattle.device.proofs.State.effect.Statement.{statement}
@@ -97,7 +97,7 @@ unfolding effect
 returns-3 c = λ m. rw (c .writes .ensures, c .before .enum-told3 .given .1)
 
 returns-4 : tie.Need-returns-4
-unfolding effect stepping
+unfolding effect unitwise
 returns-4 c = λ m. rw (c .begins .ensures, c .before .row .ensures, c .before .before .enum-told4 .given .1)
 
 same-length : tie.Need-same-length
@@ -108,7 +108,7 @@ unfolding effect
 returns-5 c =
     λ m.
     (rw (c .before .before .before .before .row2 .ensures) at (c .before .before .programs .ensures m))
-    ∙ ap (λ (i : Instruction). effect (c .before .before .before .before .before .before .before .before .before .before .before .args .g) (stepping (c .before .before .before .before .before .before .before .before .before .before .before .args .g)) i (onCounts (c .before .before .before .before .before .before .before .before .before .before .before .args .self) (now (c .before .before .before .before .before .before .before .before .before .before .before .args .counts)) m)) (sym (c .before .before .before .before .before .enum-told5 .given .1))
+    ∙ ap (λ (i : Instruction). effect (c .before .before .before .before .before .before .before .before .before .before .before .args .g) (unitwise (c .before .before .before .before .before .before .before .before .before .before .before .args .g)) i (onCounts (c .before .before .before .before .before .before .before .before .before .before .before .args .self) (now (c .before .before .before .before .before .before .before .before .before .before .before .args .counts)) m)) (sym (c .before .before .before .before .before .enum-told5 .given .1))
 
 same-length-2 : tie.Need-same-length-2
 same-length-2 c = search needs
@@ -118,10 +118,10 @@ unfolding effect
 returns-6 c =
     λ m.
     (rw (c .before .before .before .before .row3 .ensures) at (c .before .before .erases .ensures m))
-    ∙ ap (λ (i : Instruction). effect (c .before .before .before .before .before .before .before .before .before .before .before .args .g) (stepping (c .before .before .before .before .before .before .before .before .before .before .before .args .g)) i (onCounts (c .before .before .before .before .before .before .before .before .before .before .before .args .self) (now (c .before .before .before .before .before .before .before .before .before .before .before .args .counts)) m)) (sym (c .before .before .before .before .before .enum-told6 .given .1))
+    ∙ ap (λ (i : Instruction). effect (c .before .before .before .before .before .before .before .before .before .before .before .args .g) (unitwise (c .before .before .before .before .before .before .before .before .before .before .before .args .g)) i (onCounts (c .before .before .before .before .before .before .before .before .before .before .before .args .self) (now (c .before .before .before .before .before .before .before .before .before .before .before .args .counts)) m)) (sym (c .before .before .before .before .before .enum-told6 .given .1))
 
 returns-7 : tie.Need-returns-7
-unfolding effect resets stepping
+unfolding effect resets unitwise
 returns-7 c = λ m. rw (c .resets .ensures, c .before .enum-told7 .given .1)
 
 returns-8 : tie.Need-returns-8

@@ -1,6 +1,6 @@
 -- D8h: nothing with WEL 0; otherwise as its fate says.
 use borrow.Author.Tests.{not-true, not-false}
-use Rattle.device.specs.Work.{stepping}
+use Rattle.device.specs.Work.{unitwise}
 use Rattle.device.specs.Instructions.{erases}
 use borrow.Author.Needs.{needs}
 use Rattle.device.proofs.State.erases.Statement.{statement}
@@ -45,7 +45,7 @@ same-length-2 : tie.Need-same-length-2
 same-length-2 c = search needs
 
 returns-3 : tie.Need-returns-3
-unfolding erases stepping
+unfolding erases unitwise
 returns-3 c = λ m. rw (c .begins2 .ensures, c .before .with-status2 .ensures, c .before .before .request-cleared .ensures, c .before .before .before .before .before .before .before .ask-erase .ensures .1, ← (c .before .before .before .before .before .before .before .before .before .before .wel .ensures), not-false (c .before .before .before .before .before .before .before .before .before .before .wel .result) (c .before .before .before .before .before .before .before .before .before .if1 .left), ← (c .before .before .before .before .before .before .before .ask-erase .ensures .0), ← (c .before .before .before .before .begins .ensures), not-false (c .before .before .before .before .begins .result) (c .before .before .before .if2 .left))
 
 pub erases-spec : {M : Type 1} → statement M

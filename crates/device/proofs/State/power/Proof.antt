@@ -1,5 +1,5 @@
 -- Power lost and back.
-use Rattle.device.specs.Work.{stepping}
+use Rattle.device.specs.Work.{unitwise}
 use Rattle.device.specs.Step.{off, powered}
 use borrow.Author.Needs.{needs}
 use Rattle.device.proofs.State.power.Statement.{statement}
@@ -21,7 +21,7 @@ same-length : tie.Need-same-length
 same-length c = search needs
 
 returns : tie.Need-returns
-unfolding stepping off powered
+unfolding unitwise off powered
 returns c = λ m. rw (c .begins .ensures, c .before .ends .ensures, c .before .before .at-power-up .ensures, c .before .before .before .before .before .before .fill .ensures)
 
 pub power-spec : {M : Type 1} → statement M
