@@ -17,7 +17,7 @@ use Rattle.beside.specs.declared.Peeked.{Peeked}
 
 -- the header's number; the header that had none was the first
 abbrev pub version : ℕ
-version = 2
+version = 3
 
 -- ---- the next byte
 

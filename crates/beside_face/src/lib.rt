@@ -26,7 +26,7 @@ use part::Row;
 pub extern "C" fn sleet_version() -> u32
     ensures { λ r. ⌜ r ≡ version ⌝ }
 {
-    2
+    3
 }
 
 // The part of the datasheet.

@@ -9,6 +9,7 @@ use lib.ListN.{length, getD, replicate}
 use Rattle.part.specs.Choice.{if_then_else_}
 use Rattle.part.specs.Part.{bench, page, Sound}
 use Rattle.part.specs.declared.Geometry.{Geometry}
+use Rattle.part.specs.declared.Stepping.the-variants.{First}
 use Rattle.registers.specs.Registers.{oip}
 use Rattle.transfer.specs.Transfer.{is, ends, heard, columnOf, selects, withTransfer}
 use Rattle.transfer.specs.declared.Bus.{Bus}
@@ -117,10 +118,10 @@ amid c cache =
 
 -- parts with the shortest and the longest page
 abbrev pub shortest : Geometry
-shortest = record { main = 1; spare = 0; pages = 1; blocks = 1; id0 = 0; id1 = 0 }
+shortest = record { main = 1; spare = 0; pages = 1; blocks = 1; id0 = 0; id1 = 0; stepping = First }
 
 abbrev pub longest : Geometry
-longest = record { main = 4000; spare = 96; pages = 1; blocks = 1; id0 = 0; id1 = 0 }
+longest = record { main = 4000; spare = 96; pages = 1; blocks = 1; id0 = 0; id1 = 0; stepping = First }
 
 -- a bench page whose bytes count its columns
 abbrev pub numbered : List ℕ

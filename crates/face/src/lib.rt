@@ -1,6 +1,7 @@
 // The numbers of C: the structs of include/sleetanvil.h, and what the numbers of a part and of a device state stand for.
 ghost use mathlib.Core.Path.{_≡_};
-ghost use Rattle.face.specs.Face.{partOf, facePart, cellsLength, cacheLength, countsLength, instructionAt, workAt, stateAs, stateOf, flag, faced, facedJob, faceOf, soundTold, noState, standIn, handedBack};
+ghost use Rattle.part.specs.Part.{noPart};
+ghost use Rattle.face.specs.Face.{steppingAt, steppingNumber, partOf, facePart, cellsLength, cacheLength, countsLength, instructionAt, workAt, stateAs, stateOf, flag, faced, facedJob, faceOf, soundTold, noState, standIn, handedBack};
 
 pub mod records;
 
@@ -11,6 +12,7 @@ use device::State;
 use part::Column;
 use part::Geometry;
 use part::Row;
+use part::Stepping;
 use registers::Pins;
 use registers::Registers;
 use transfer::Bus;
@@ -26,6 +28,7 @@ pub struct CGeometry {
     pub blocks: u32,
     pub id0: u8,
     pub id1: u8,
+    pub stepping: u8,
 }
 
 // The device state.
@@ -119,10 +122,46 @@ pub enum Entry {
     Stranger,
 }
 
-// The geometry of some numbers.
+// The stepping of a number.
+fn stepping_at(k: u8) -> Stepping
+    ensures { λ r. ⌜ r ≡ steppingAt k ⌝ }
+{
+    if k == 0 { Stepping::First } else { Stepping::Second }
+}
+
+// The number of a stepping.
+fn stepping_number(stepping: Stepping) -> u8
+    ensures { λ r. ⌜ r ≡ steppingNumber stepping ⌝ }
+{
+    match stepping {
+        Stepping::First => 0,
+        Stepping::Second => 1,
+    }
+}
+
+// A part of nothing, which is not sound.
+fn no_part() -> Geometry
+    ensures { λ r. ⌜ r ≡ noPart ⌝ }
+{
+    Geometry {
+        main: 0,
+        spare: 0,
+        pages: 0,
+        blocks: 0,
+        id0: 0,
+        id1: 0,
+        stepping: Stepping::First,
+    }
+}
+
+// The geometry of some numbers; that of no part where there is no such stepping.
 pub fn part_of(g: CGeometry) -> Geometry
     ensures { λ r. ⌜ r ≡ partOf g ⌝ }
 {
+    if 1 < g.stepping {
+        return no_part();
+    }
+    let stepping = stepping_at(g.stepping);
     Geometry {
         main: g.main,
         spare: g.spare,
@@ -130,6 +169,7 @@ pub fn part_of(g: CGeometry) -> Geometry
         blocks: g.blocks,
         id0: g.id0,
         id1: g.id1,
+        stepping,
     }
 }
 
@@ -137,6 +177,8 @@ pub fn part_of(g: CGeometry) -> Geometry
 pub fn face_part(g: Geometry) -> CGeometry
     ensures { λ r. ⌜ r ≡ facePart g ⌝ }
 {
+    let s = g.stepping;
+    let stepping = stepping_number(s);
     CGeometry {
         main: g.main,
         spare: g.spare,
@@ -144,6 +186,7 @@ pub fn face_part(g: Geometry) -> CGeometry
         blocks: g.blocks,
         id0: g.id0,
         id1: g.id1,
+        stepping,
     }
 }
 

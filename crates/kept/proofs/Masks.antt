@@ -7,9 +7,11 @@ use lib.Arith.{bin-ind}
 use lib.Bits.{bitAnd, and-step, and-shr, and-zero-l, and-self}
 use lib.Dec.{eqb}
 use Rattle.part.specs.declared.Geometry.{Geometry}
+use Rattle.part.specs.declared.Stepping.{Stepping}
+use Rattle.part.specs.declared.Stepping.the-variants.{First, Second}
 use Rattle.part.proofs.Bits.{and-odd}
 use Rattle.part.proofs.Choice.{cond-keep}
-use Rattle.registers.specs.Registers.{a0Mask, b0Mask, d0Mask, atPowerUp, locked, registerWritten}
+use Rattle.registers.specs.Registers.{maskOf, a0Mask, b0Mask, d0Mask, atPowerUp, locked, registerWritten}
 use Rattle.registers.specs.declared.Pins.{Pins}
 use Rattle.registers.specs.declared.Registers.{Registers}
 use Rattle.soundness.specs.Soundness.{Within}
@@ -53,7 +55,11 @@ masks-as g h = record { a0 = h .a0; b0 = h .b0; d0 = h .d0 }
 
 -- the power-up values are within the masks
 pub start-in-masks : (g : Geometry) → InMasks g atPowerUp
-start-in-masks g = record { a0 = refl; b0 = refl; d0 = refl }
+start-in-masks g = record { a0 = start (g .stepping); b0 = refl; d0 = refl }
+  where
+    start : (st : Stepping) → Within (maskOf st) (atPowerUp .a0)
+    start First = refl
+    start Second = refl
 
 -- a register written is within its mask, and the others are as they were
 pub written-in-masks : (g : Geometry) (p : Pins) (a v : ℕ) (r : Registers) → InMasks g r → InMasks g (registerWritten g p a v r)

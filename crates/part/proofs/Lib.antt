@@ -2,3 +2,4 @@ pub mod Choice
 pub mod Laws
 pub mod Bits
 pub mod OneAnswer
+pub mod Complement

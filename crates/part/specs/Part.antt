@@ -3,6 +3,8 @@ use mathlib.Core.Bool.{Bool, _&&_}
 use Prim.Native.Nat.{ℕ, _+_, _*_, _/_, _≤_}
 use lib.Dec.{leb}
 use Rattle.part.specs.declared.Geometry.{Geometry}
+use Rattle.part.specs.declared.Stepping.{Stepping}
+use Rattle.part.specs.declared.Stepping.the-variants.{First}
 use Rattle.part.specs.declared.Row.{Row}
 use Rattle.part.specs.declared.Column.{Column}
 
@@ -35,10 +37,18 @@ place g r c = r .0 * page g + c .0
 abbrev pub block : Geometry → Row → ℕ
 block g r = r .0 / g .pages
 
--- FM25S005BI3
-abbrev pub fm25s005bi3 : Geometry
-fm25s005bi3 = record { main = 2048; spare = 128; pages = 64; blocks = 512; id0 = 0xA1; id1 = 0xD5 }
+-- the same part of another stepping
+abbrev pub ofStepping : Stepping → Geometry → Geometry
+ofStepping st g = record { main = g .main; spare = g .spare; pages = g .pages; blocks = g .blocks; id0 = g .id0; id1 = g .id1; stepping = st }
 
--- bench
+-- a part of nothing, which is not sound
+abbrev pub noPart : Geometry
+noPart = record { main = 0; spare = 0; pages = 0; blocks = 0; id0 = 0; id1 = 0; stepping = First }
+
+-- FM25S005BI3, as it first came
+abbrev pub fm25s005bi3 : Geometry
+fm25s005bi3 = record { main = 2048; spare = 128; pages = 64; blocks = 512; id0 = 0xA1; id1 = 0xD5; stepping = First }
+
+-- bench, of the first stepping too
 abbrev pub bench : Geometry
-bench = record { main = 16; spare = 4; pages = 4; blocks = 8; id0 = 0x5A; id1 = 0x01 }
+bench = record { main = 16; spare = 4; pages = 4; blocks = 8; id0 = 0x5A; id1 = 0x01; stepping = First }

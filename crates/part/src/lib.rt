@@ -4,9 +4,15 @@ ghost use mathlib.Core.Path.{_≡_};
 ghost use Prim.Native.Nat.{_^_, _<_};
 ghost use lib.ListN.{length, replicate};
 ghost use Rattle.part.specs.Part.{page, rows, soundPart, place, block, fm25s005bi3, bench};
-ghost use Rattle.part.specs.Protection.{bp, guarded, protects};
+ghost use Rattle.part.specs.Protection.{bp, guarded, picked, complemented, protects};
 
-// D, S, K, N and the two identity bytes. Every number of 32 bits can be handed in, so each unsound geometry can be said;
+// The stepping of a part. The second has CMP, the complement bit, in A0h.
+pub enum Stepping {
+    First,
+    Second,
+}
+
+// D, S, K, N, the two identity bytes and the stepping. Every number of 32 bits can be handed in, so each unsound geometry can be said;
 // D + S and K times N, the sums and products that the soundness rule asks about, never leave 64 bits.
 pub struct Geometry {
     pub main: u32,
@@ -15,6 +21,7 @@ pub struct Geometry {
     pub blocks: u32,
     pub id0: u8,
     pub id1: u8,
+    pub stepping: Stepping,
 }
 
 // A row address: which page of the array.
@@ -78,11 +85,18 @@ pub fn place(g: Geometry, row: Row, column: Column) -> usize
     wide_short(row.0) * g.page() + wide_short(column.0)
 }
 
-// How many blocks register A0h protects, b being its BP number: for b = 0 none, otherwise N / 2^(7-b), rounded down.
+// The BP number of register A0h.
+fn bp(a0: u8) -> u8
+    ensures { λ r. ⌜ r ≡ bp a0 ⌝ }
+{
+    a0 / 8 % 8
+}
+
+// How many blocks BP speaks of, b being its number: for b = 0 none, otherwise N / 2^(7-b), rounded down.
 fn guarded(g: Geometry, a0: u8) -> usize
     ensures { λ r. ⌜ r ≡ guarded g (bp a0) ⌝ }
 {
-    let b = a0 / 8 % 8;
+    let b = bp(a0);
     if b == 0 {
         return 0;
     }
@@ -98,19 +112,47 @@ fn two_to(k: u8) -> usize
     1 << k
 }
 
-// Whether register A0h protects a block.
-pub fn protected(g: Geometry, a0: u8, block: usize) -> bool
-    ensures { λ r. ⌜ r ≡ protects g a0 block ⌝ }
+// Whether a block is one of those that BP and INV pick: the highest numbered, or with INV the lowest.
+fn picked(g: Geometry, a0: u8, block: usize) -> bool
+    ensures { λ r. ⌜ r ≡ picked g a0 block ⌝ }
 {
     let count = guarded(g, a0);
     if a0 / 4 % 2 == 1 {
         return block < count;
     }
     let n = wide(g.blocks);
-    if n <= block {
+    n - count <= block
+}
+
+// Whether the others are protected in their place: on the second stepping, with CMP 1 and b from 1 to 6.
+fn complemented(stepping: Stepping, a0: u8) -> bool
+    ensures { λ r. ⌜ r ≡ complemented stepping a0 ⌝ }
+{
+    match stepping {
+        Stepping::First => false,
+        Stepping::Second => {
+            let b = bp(a0);
+            if a0 / 2 % 2 != 1 {
+                return false;
+            }
+            if b < 1 {
+                return false;
+            }
+            b <= 6
+        }
+    }
+}
+
+// Whether register A0h protects a block.
+pub fn protected(g: Geometry, a0: u8, block: usize) -> bool
+    ensures { λ r. ⌜ r ≡ protects g a0 block ⌝ }
+{
+    if wide(g.blocks) <= block {
         return false;
     }
-    n - count <= block
+    let p = picked(g, a0, block);
+    let s = g.stepping;
+    if complemented(s, a0) { !p } else { p }
 }
 
 // Lent memory filled with one byte.
@@ -150,6 +192,7 @@ impl Fm25s005bi3 {
             blocks: Fm25s005bi3::N,
             id0: Fm25s005bi3::ID0,
             id1: Fm25s005bi3::ID1,
+            stepping: Stepping::First,
         }
     }
 }
@@ -180,6 +223,7 @@ impl Bench {
             blocks: Bench::N,
             id0: Bench::ID0,
             id1: Bench::ID1,
+            stepping: Stepping::First,
         }
     }
 }

@@ -7,6 +7,8 @@ use Rattle.registers.proofs.Registers.read.Reads as read-reads
 use Rattle.registers.proofs.Registers.read.Kinds as read-kinds
 use Rattle.registers.proofs.Registers.written.Reads as written-reads
 use Rattle.registers.proofs.Registers.written.Kinds as written-kinds
+use Rattle.registers.proofs.a0_mask.Reads as a0-mask-reads
+use Rattle.registers.proofs.a0_mask.Kinds as a0-mask-kinds
 use Rattle.registers.proofs.oip.Reads as oip-reads
 use Rattle.registers.proofs.oip.Kinds as oip-kinds
 use Rattle.registers.proofs.wel.Reads as wel-reads
@@ -36,6 +38,9 @@ read-one κs a x y s t p q = p ∙ sym q
 
 pub written-one : OneAnswer 0 written-kinds.ps written-kinds.r written-reads.Post
 written-one κs a x y s t p q = p ∙ sym q
+
+pub a0-mask-one : OneAnswer 0 a0-mask-kinds.ps a0-mask-kinds.r a0-mask-reads.Post
+a0-mask-one κs a x y s t p q = p ∙ sym q
 
 pub oip-one : OneAnswer 0 oip-kinds.ps oip-kinds.r oip-reads.Post
 oip-one κs a x y s t p q = p ∙ sym q

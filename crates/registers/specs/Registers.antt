@@ -5,6 +5,8 @@ use lib.Bits.{bitAnd}
 use lib.Dec.{eqb}
 use Rattle.part.specs.Choice.{if_then_else_}
 use Rattle.part.specs.declared.Geometry.{Geometry}
+use Rattle.part.specs.declared.Stepping.{Stepping}
+use Rattle.part.specs.declared.Stepping.the-variants.{First, Second}
 use Rattle.registers.specs.declared.Registers.{Registers}
 use Rattle.registers.specs.declared.Pins.{Pins}
 
@@ -47,9 +49,14 @@ resetStatus c = c / 2 % 2 * 2
 
 -- ---- the write masks, and the values at power-up (C0h but for the OIP of the read that then begins)
 
--- the part is named for a stepping with another mask; those there are have this one
+-- of A0h, by the stepping: the second has bit 1, CMP
+abbrev pub maskOf : Stepping → ℕ
+maskOf First = 0xBC
+maskOf Second = 0xBE
+
+-- of a part
 abbrev pub a0Mask : Geometry → ℕ
-a0Mask g = 0xBC
+a0Mask g = maskOf (g .stepping)
 
 abbrev pub b0Mask : ℕ
 b0Mask = 0x11

@@ -1,7 +1,8 @@
 // The registers A0h, B0h, C0h and D0h: read and written by address, and the bits of the status register. Document 01, "Registers".
 ghost use mathlib.Core.Path.{_≡_};
-ghost use Rattle.registers.specs.Registers.{oip, wel, oipSet, oipCleared, welSet, welCleared, requestCleared, eFailSet, pFailSet, resetStatus, atPowerUp, register, registerWritten, locked};
+ghost use Rattle.registers.specs.Registers.{oip, wel, oipSet, oipCleared, welSet, welCleared, requestCleared, eFailSet, pFailSet, resetStatus, a0Mask, atPowerUp, register, registerWritten, locked};
 use part::Geometry;
+use part::Stepping;
 
 pub struct Registers {
     pub a0: u8,
@@ -58,7 +59,7 @@ impl Registers {
                     return self;
                 }
                 Registers {
-                    a0: value & 0xBC,
+                    a0: value & a0_mask(g),
                     ..self
                 }
             }
@@ -72,6 +73,17 @@ impl Registers {
             },
             _ => self,
         }
+    }
+}
+
+// The write mask of A0h, by the part's stepping.
+pub fn a0_mask(g: Geometry) -> u8
+    ensures { λ r. ⌜ r ≡ a0Mask g ⌝ }
+{
+    let s = g.stepping;
+    match s {
+        Stepping::First => 0xBC,
+        Stepping::Second => 0xBE,
     }
 }
 

@@ -4,6 +4,7 @@ use mathlib.Core.List.{List, [], _∷_, _++_}
 use Prim.Native.Nat.{ℕ, _-_}
 use Prim.Native.String.{String}
 use lib.ListN.{length, replicate}
+use Rattle.part.specs.Part.{noPart}
 use Rattle.part.specs.declared.Geometry.{Geometry}
 use Rattle.texts.specs.Text.{bytes as characters}
 use Rattle.sheet.specs.Numbers.{lowFirst}
@@ -85,4 +86,4 @@ sheetOf g = laid (sheet g)
 
 -- the same with 0 for the four numbers, which the code has as it stands and then writes them into
 unfoldable pub unnumbered : List ℕ
-unnumbered = sheetOf (record { main = 0; spare = 0; pages = 0; blocks = 0; id0 = 0; id1 = 0 })
+unnumbered = sheetOf noPart

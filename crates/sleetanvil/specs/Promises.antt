@@ -1,9 +1,9 @@
--- What is promised of a run in numbers: those that stand for no state are refused in the paper's order, an event needs no output but for a
--- shift, and work is the run of its record.
-use mathlib.Core.Bool.{not}
+-- What is promised of a run in numbers: those that stand for no state are refused in the paper's order, those of no sound part before all
+-- else, an event needs no output but for a shift, and work is the run of its record.
+use mathlib.Core.Bool.{false, not}
 use mathlib.Core.List.{List}
 use mathlib.Core.Path.{_≡_}
-use Prim.Native.Nat.{ℕ, _*_}
+use Prim.Native.Nat.{ℕ, _*_, _<_}
 use lib.Dec.{eqb}
 use Rattle.part.specs.Choice.{if_then_else_}
 use Rattle.part.specs.Part.{page, rows, soundPart}
@@ -11,10 +11,11 @@ use Rattle.part.specs.declared.Geometry.{Geometry}
 use Rattle.buslog.specs.Log.{bytesOf}
 use Rattle.buslog.specs.declared.Record.{Record}
 use Rattle.buslog.specs.declared.Record.the-variants.{Units}
+use Rattle.face.specs.Face.{partOf}
 use Rattle.face.specs.declared.CGeometry.{CGeometry}
 use Rattle.face.specs.declared.CState.{CState}
 use Rattle.walk.specs.Turns.{takes}
-use Rattle.sleetanvil.specs.Runs.{checkBad, faceRan, unheard, quietOf, workedOf}
+use Rattle.sleetanvil.specs.Runs.{faceSeen, checkBad, faceNothing, faceRan, unheard, quietOf, workedOf}
 
 -- numbers that stand for no state: the part, the cells, the cache register and the page counts are checked first, and then it is 5
 abbrev pub BadExactly : Type 0
@@ -26,6 +27,18 @@ BadExactly =
     else if not (eqb cache (page g)) then 3
     else if not (eqb counts (rows g)) then 4
     else 5)
+
+-- a part that is not sound is refused with 1 before all else: nothing is done, and the state's numbers are given back as they came
+abbrev pub PartRefused : Type 0
+PartRefused =
+    (g : CGeometry) (c : CState) (log cells cache counts out : List ℕ) → soundPart (partOf g) ≡ false →
+    faceRan g c log cells cache counts out ≡ faceSeen (faceNothing 1 c) cells cache counts out
+
+-- so is a stepping above 1, whatever the part's other numbers are
+abbrev pub SteppingRefused : Type 0
+SteppingRefused =
+    (g : CGeometry) (c : CState) (log cells cache counts out : List ℕ) → 1 < g .stepping →
+    faceRan g c log cells cache counts out ≡ faceSeen (faceNothing 1 c) cells cache counts out
 
 -- an event that is no shift is the same whatever output is lent
 abbrev pub AnyOutput : Type 0

@@ -9,11 +9,11 @@ use part::Geometry;
 use registers::Registers;
 use transfer::Transfer;
 
-// Whether the registers' bits are within their masks, and bits 7 to 4 of C0h are 0. (The masks are the same for every part today.)
+// Whether the registers' bits are within their masks, and bits 7 to 4 of C0h are 0.
 pub fn registers_sound(g: Geometry, regs: Registers) -> bool
     ensures { λ r. ⌜ r ≡ registersSound g regs ⌝ }
 {
-    if regs.a0 & 0xBC != regs.a0 {
+    if regs.a0 & registers::a0_mask(g) != regs.a0 {
         return false;
     }
     if regs.b0 & 0x11 != regs.b0 {

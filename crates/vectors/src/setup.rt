@@ -1,4 +1,4 @@
-// How a vector begins: the part, the state handed in, and the lent memory, its lengths and its first content, as 28 numbers.
+// How a vector begins: the part, the state handed in, and the lent memory, its lengths and its first content, as 29 numbers.
 use crate::script;
 use array::Job;
 use array::Work;
@@ -6,6 +6,7 @@ use device::State;
 use part::Column;
 use part::Geometry;
 use part::Row;
+use part::Stepping;
 use registers::Pins;
 use registers::Registers;
 use transfer::Bus;
@@ -13,7 +14,7 @@ use transfer::Transfer;
 
 // The numbers of a setup, each at its place below, and the place of the one that is being read.
 pub(crate) struct Setup {
-    numbers: [u32; 28],
+    numbers: [u32; 29],
     at: usize,
 }
 
@@ -78,11 +79,14 @@ pub(crate) const COUNTS_START: usize = 26;
 
 pub(crate) const OUTPUT: usize = 27;
 
+// The stepping, 0 first or 1 second.
+const STEPPING: usize = 28;
+
 impl Setup {
     // The numbers of a line: hex, with one space between two; what is missing is 0.
     pub(crate) fn read(text: &[u8]) -> Setup {
         let mut s = Setup {
-            numbers: [0u32; 28],
+            numbers: [0u32; 29],
             at: 0,
         };
         let mut i = 0;
@@ -97,7 +101,7 @@ impl Setup {
     fn with(self, d: u8) -> Setup {
         let mut n = self.numbers;
         let k = self.at;
-        if 28 <= k {
+        if 29 <= k {
             return self;
         }
         if 16 <= d {
@@ -125,7 +129,7 @@ impl Setup {
 
     fn number(self, at: usize) -> u32 {
         let n = self.numbers;
-        if at < 28 { n[at] } else { 0 }
+        if at < 29 { n[at] } else { 0 }
     }
 
     // The part, with the bench part's identity.
@@ -137,7 +141,12 @@ impl Setup {
             blocks: self.number(BLOCKS),
             id0: 0x5A,
             id1: 0x01,
+            stepping: self.stepping(),
         }
+    }
+
+    fn stepping(self) -> Stepping {
+        if self.number(STEPPING) == 0 { Stepping::First } else { Stepping::Second }
     }
 
     fn registers(self) -> Registers {

@@ -12,9 +12,12 @@ returns : tie.Need-returns
 unfolding registerWritten
 returns c = rw (c .before .before .match .keys1, ← (c .before .locked .ensures), c .if1 .taken)
 
+a0-mask-requires : tie.Need-a0-mask-requires
+a0-mask-requires c κs = search needs
+
 returns-2 : tie.Need-returns-2
 unfolding registerWritten
-returns-2 c = rw (c .before .before .match .keys1, ← (c .before .locked .ensures), c .if1 .left)
+returns-2 c = rw (c .before .before .before .match .keys1, ← (c .before .before .locked .ensures), c .before .if1 .left, c .a0-mask .ensures)
 
 returns-3 : tie.Need-returns-3
 unfolding registerWritten
@@ -29,4 +32,4 @@ unfolding registerWritten
 returns-5 c = simp (ne-eqb _ _ (c .match .rest .0 .0 .1), ne-eqb _ _ (c .match .rest .0 .1), ne-eqb _ _ (c .match .rest .1))
 
 pub written-spec : {M : Type 1} → statement M
-written-spec = tie.close (tie.spec locked-requires returns returns-2 returns-3 returns-4 returns-5)
+written-spec = tie.close (tie.spec locked-requires returns a0-mask-requires returns-2 returns-3 returns-4 returns-5)
