@@ -59,7 +59,10 @@ fn the_29th_number_is_the_stepping() {
     let a0 = |stepping: &str| {
         let vector = format!("v|{POWER_UP}{stepping}|04 14 00 [1F A0 FF]");
         let vector = Vector::read(&vector).expect("a vector");
-        (vector.case.geometry.stepping, model(&vector.case).answer.state.a0)
+        (
+            vector.case.geometry.stepping,
+            model(&vector.case).answer.state.a0,
+        )
     };
     assert_eq!(a0(""), (Stepping::First, 0xBC));
     assert_eq!(a0(" 0"), (Stepping::First, 0xBC));

@@ -1,7 +1,7 @@
 //! Random parts, states, memories and logs, sound and not.
 
 use sleetanvil::case::{Case, Fill};
-use sleetanvil::{paper, Geometry, State};
+use sleetanvil::{paper, Geometry, State, Stepping};
 
 use super::rng::Rng;
 
@@ -89,10 +89,12 @@ impl Generator {
         }
     }
 
+    /// A sound part, half of them of the second stepping.
     pub fn sound_geometry(&mut self) -> Geometry {
         let rng = &mut self.rng;
+        let stepping = rng.pick(&[Stepping::First, Stepping::Second]);
         let (data, spare, pages, blocks) = match rng.below(20) {
-            0 | 1 => return Geometry::bench(),
+            0 | 1 => return Geometry::bench().with_stepping(stepping),
             2 => (1, 0, 1, 1),
             3 => {
                 let page = rng.within(250, 4096);
@@ -121,6 +123,7 @@ impl Generator {
             spare: spare as u32,
             pages: pages as u32,
             blocks: blocks as u32,
+            stepping,
             ..Geometry::bench()
         };
         geometry.identity = [self.rng.byte(), self.rng.byte()];
@@ -222,7 +225,7 @@ impl Generator {
         let rng = &mut self.rng;
         let mut state = State {
             a0: if rng.percent(50) {
-                rng.byte() & 0xBC
+                rng.byte() & a0_mask(geometry)
             } else {
                 0
             },
@@ -313,6 +316,14 @@ impl Generator {
                 state.instruction = rng.pick(&CODES).into();
             }
         }
+    }
+}
+
+/// The bits of A0h that a part of its stepping has.
+fn a0_mask(geometry: &Geometry) -> u8 {
+    match geometry.stepping {
+        Stepping::First => 0xBC,
+        Stepping::Second => 0xBE,
     }
 }
 
@@ -421,13 +432,18 @@ pub fn cache_read(rng: &mut Rng, geometry: &Geometry) -> Vec<u8> {
 }
 
 /// The three bytes of a row: mostly inside the array, and often one of a few, so that pages meet
-/// again.
+/// again; now and then beside the border of the blocks that a BP number counts off.
 fn row_bytes(rng: &mut Rng, geometry: &Geometry) -> [u8; 3] {
-    let (_, _, rows) = sizes(geometry);
+    let (_, pages, rows) = sizes(geometry);
     let row = match rng.below(10) {
         0..=2 => 0,
         3 | 4 => rows - 1,
-        5..=7 => rng.below(rows),
+        5 | 6 => rng.below(rows),
+        7 => {
+            let counted = (rows / pages >> rng.within(1, 6)) * pages;
+            let border = rng.pick(&[counted, rows - counted]);
+            (border - rng.below(2).min(border)).min(rows - 1)
+        }
         8 => rows + rng.below(3),
         _ => usize::from(rng.word()),
     };
@@ -605,7 +621,18 @@ impl Script<'_> {
     }
 
     fn unlock(&mut self) {
-        let value = self.rng.pick(&[0x00, 0x00, 0x80, 0x24, 0x08, 0xFF]);
+        let any = self.rng.byte();
+        let value = self.rng.pick(&[
+            0x00,
+            0x00,
+            0x80,
+            0x24,
+            0x08,
+            0xFF,
+            any,
+            any & 0x3E,
+            any & 0x3E,
+        ]);
         self.transfer(&[0x1F, 0xA0, value]);
     }
 
