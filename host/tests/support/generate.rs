@@ -111,6 +111,7 @@ impl Generator {
             5 => (rng.within(1, 3), 0, 256, rng.within(1, 2)),
             6 => (1, rng.below(2), 1, rng.within(200, 600)),
             7 => (rng.within(100, 300), rng.below(40), 2, rng.within(1, 3)),
+            8 => (rng.within(1, 3), 0, rng.within(1, 2), rng.within(18, 140)),
             _ => (
                 rng.within(1, 20),
                 rng.below(6),
@@ -280,8 +281,8 @@ impl Generator {
     fn break_clause(&mut self, geometry: &Geometry, state: &mut State) {
         let rng = &mut self.rng;
         let (page, pages, rows) = sizes(geometry);
-        match rng.below(20) {
-            0 => state.a0 |= rng.pick(&[0x40, 0x02, 0x01]),
+        match rng.below(22) {
+            0 | 20 | 21 => state.a0 |= rng.pick(&[0x40, 0x02, 0x01]) & !a0_mask(geometry),
             1 => state.b0 |= rng.byte() & 0xEE,
             2 => state.c0 |= 0x10 << rng.below(4),
             3 => state.d0 |= rng.byte() & 0x9F,
@@ -434,21 +435,41 @@ pub fn cache_read(rng: &mut Rng, geometry: &Geometry) -> Vec<u8> {
 /// The three bytes of a row: mostly inside the array, and often one of a few, so that pages meet
 /// again; now and then beside the border of the blocks that a BP number counts off.
 fn row_bytes(rng: &mut Rng, geometry: &Geometry) -> [u8; 3] {
-    let (_, pages, rows) = sizes(geometry);
+    let (_, _, rows) = sizes(geometry);
     let row = match rng.below(10) {
         0..=2 => 0,
         3 | 4 => rows - 1,
         5 | 6 => rng.below(rows),
         7 => {
-            let counted = (rows / pages >> rng.within(1, 6)) * pages;
-            let border = rng.pick(&[counted, rows - counted]);
-            (border - rng.below(2).min(border)).min(rows - 1)
+            let a0 = rng.byte();
+            beside_the_border(rng, geometry, a0)
         }
         8 => rows + rng.below(3),
         _ => usize::from(rng.word()),
     };
     let [high, low] = (row as u16).to_be_bytes();
     [if rng.percent(80) { 0 } else { rng.byte() }, high, low]
+}
+
+/// A row at either side of the border between the blocks that A0h protects and the others; with a BP
+/// number of 0, of the two halves.
+fn beside_the_border(rng: &mut Rng, geometry: &Geometry, a0: u8) -> usize {
+    let (_, pages, rows) = sizes(geometry);
+    let divided = match a0 >> 3 & 7 {
+        0 => 1,
+        number => 7 - number,
+    };
+    let counted = (rows / pages >> divided) * pages;
+    let border = match a0 & 0x04 {
+        0 => rows - counted,
+        _ => counted,
+    };
+    let row = if rng.percent(50) {
+        border
+    } else {
+        border.saturating_sub(1)
+    };
+    row.min(rows - 1)
 }
 
 /// Logs.
@@ -530,7 +551,7 @@ struct Script<'a> {
 
 impl Script<'_> {
     fn step(&mut self) {
-        match self.rng.below(20) {
+        match self.rng.below(22) {
             0..=3 => self.any_transfer(),
             4..=6 => self.program(),
             7 | 8 => self.erase(),
@@ -542,6 +563,7 @@ impl Script<'_> {
             14 | 15 => self.work(),
             16 => self.aside(),
             17 => self.cut(),
+            18 | 19 => self.protect_and_try(),
             _ => self.finish(),
         }
     }
@@ -634,6 +656,27 @@ impl Script<'_> {
             any & 0x3E,
         ]);
         self.transfer(&[0x1F, 0xA0, value]);
+    }
+
+    /// Some blocks are protected, and one is erased or programmed that is mostly beside their border.
+    fn protect_and_try(&mut self) {
+        let a0 = self.rng.byte() & self.rng.pick(&[0x3E, 0x3E, 0x3E, 0xFF]);
+        self.transfer(&[0x1F, 0xA0, a0]);
+        for _ in 0..self.rng.within(1, 2) {
+            self.transfer(&[0x06]);
+            let code = self.rng.pick(&[0x10, 0xD8]);
+            if self.rng.percent(70) {
+                let row = beside_the_border(self.rng, self.geometry, a0);
+                let [high, low] = (row as u16).to_be_bytes();
+                self.transfer(&[code, 0x00, high, low]);
+            } else {
+                self.with_row(code);
+            }
+            self.finish();
+        }
+        if self.rng.percent(30) {
+            self.transfer(&[0x0F, 0xA0, 0x00]);
+        }
     }
 
     fn load(&mut self) {
