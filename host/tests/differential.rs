@@ -785,8 +785,8 @@ impl Asked {
         self.is_protected_plain() != turned
     }
 
-    /// With CMP and a BP number from 1 to 6: whether the block is the last or the first of those that
-    /// are protected, at the border to the open ones or at its other side.
+    /// Whether the block is at either side of the border between protected and open blocks. The BP
+    /// number is from 1 to 6.
     fn is_at_the_border(&self) -> bool {
         let border = match self.inverted() {
             true => self.counted(),
@@ -2023,7 +2023,8 @@ mod completeness {
             let outcome = record_by_record(&case, model_on, |record, before, buffers| {
                 let cmp = before.a0 & 0x02 != 0;
                 let asked = Asked::of(&case.geometry, &before, record);
-                let full = asked.is_some_and(|asked| buffers.counts[asked.row] >= 4);
+                let full = |asked: Asked| asked.code == 0x10 && buffers.counts[asked.row] >= 4;
+                let full = asked.is_some_and(full);
                 let answer = model_step(&case.geometry, record, before, buffers);
                 if answer.refusal.is_some() {
                     return answer;
@@ -2065,13 +2066,13 @@ mod completeness {
                     let refused = answer.state.job == 0;
                     let what = if refused { "refused" } else { "begun" };
                     let inv = u8::from(asked.inverted());
-                    let inside = (1..=6).contains(&asked.number());
                     saw(&match (asked.number(), asked.counted()) {
                         (b @ (0 | 7), _) => format!("{verb} {what}, b {b}"),
                         (_, 0) => format!("{verb} {what}, none counted off, INV {inv}"),
                         _ => format!("{verb} {what}, INV {inv}"),
                     });
-                    if inside && asked.blocks >= 32 && asked.is_at_the_border() {
+                    let bordered = (1..=6).contains(&asked.number()) && asked.counted() > 0;
+                    if bordered && asked.blocks >= 32 && asked.is_at_the_border() {
                         saw(&format!(
                             "{verb} {what} at the border, of 32 blocks or more"
                         ));

@@ -1,5 +1,5 @@
 //! Parts: "The article", and of "Registers" the rule of protection; document 02, item 7: the stepping,
-//! and the protected blocks turned round.
+//! and when protected and open blocks change places.
 
 use super::registers::{A0_COMPLEMENT, A0_INVERTED};
 
@@ -117,7 +117,7 @@ impl Array {
         match a0 >> 3 & 7 {
             0 => false,
             7 => true,
-            number => self.counts(number, a0 & A0_INVERTED != 0, block) != self.turns_round(a0),
+            number => self.counts(number, a0 & A0_INVERTED != 0, block) != self.complements(a0),
         }
     }
 
@@ -132,8 +132,8 @@ impl Array {
         }
     }
 
-    /// Whether the blocks that are not counted off are the protected ones.
-    fn turns_round(&self, a0: u8) -> bool {
+    /// Whether protected and open blocks change places: CMP is 1, on a part that has it.
+    fn complements(&self, a0: u8) -> bool {
         self.stepping == Stepping::Second && a0 & A0_COMPLEMENT != 0
     }
 }

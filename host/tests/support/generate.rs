@@ -433,7 +433,7 @@ pub fn cache_read(rng: &mut Rng, geometry: &Geometry) -> Vec<u8> {
 }
 
 /// The three bytes of a row: mostly inside the array, and often one of a few, so that pages meet
-/// again; now and then beside the border of the blocks that a BP number counts off.
+/// again; now and then beside a border of protected blocks.
 fn row_bytes(rng: &mut Rng, geometry: &Geometry) -> [u8; 3] {
     let (_, _, rows) = sizes(geometry);
     let row = match rng.below(10) {
@@ -459,7 +459,7 @@ fn beside_the_border(rng: &mut Rng, geometry: &Geometry, a0: u8) -> usize {
         0 => 1,
         number => 7 - number,
     };
-    let counted = (rows / pages >> divided) * pages;
+    let counted = ((rows / pages) >> divided) * pages;
     let border = match a0 & 0x04 {
         0 => rows - counted,
         _ => counted,
@@ -642,19 +642,12 @@ impl Script<'_> {
         self.transfer(&[0x0F, 0xC0, 0x00]);
     }
 
+    /// A0h is written, mostly so that blocks are open.
     fn unlock(&mut self) {
-        let any = self.rng.byte();
-        let value = self.rng.pick(&[
-            0x00,
-            0x00,
-            0x80,
-            0x24,
-            0x08,
-            0xFF,
-            any,
-            any & 0x3E,
-            any & 0x3E,
-        ]);
+        let value = match self.rng.below(3) {
+            0 => self.rng.byte() & self.rng.pick(&[0x3E, 0x3E, 0xFF]),
+            _ => self.rng.pick(&[0x00, 0x00, 0x80, 0x24, 0x08, 0xFF]),
+        };
         self.transfer(&[0x1F, 0xA0, value]);
     }
 
