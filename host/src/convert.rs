@@ -2,7 +2,7 @@
 //! compares the two.
 
 use crate::raw::{RawKeeper, RawQueue};
-use crate::{paper, Answer, Geometry, Refusal, State};
+use crate::{paper, Answer, Geometry, Refusal, State, Stepping};
 
 impl From<Geometry> for paper::Part {
     fn from(geometry: Geometry) -> Self {
@@ -12,6 +12,7 @@ impl From<Geometry> for paper::Part {
             pages: geometry.pages,
             blocks: geometry.blocks,
             identity: geometry.identity,
+            stepping: geometry.stepping.into(),
         }
     }
 }
@@ -24,6 +25,25 @@ impl From<paper::Part> for Geometry {
             pages: part.pages,
             blocks: part.blocks,
             identity: part.identity,
+            stepping: part.stepping.into(),
+        }
+    }
+}
+
+impl From<Stepping> for paper::Stepping {
+    fn from(stepping: Stepping) -> Self {
+        match stepping {
+            Stepping::First => paper::Stepping::First,
+            Stepping::Second => paper::Stepping::Second,
+        }
+    }
+}
+
+impl From<paper::Stepping> for Stepping {
+    fn from(stepping: paper::Stepping) -> Self {
+        match stepping {
+            paper::Stepping::First => Stepping::First,
+            paper::Stepping::Second => Stepping::Second,
         }
     }
 }

@@ -2,6 +2,20 @@
 
 use crate::{ffi, Job};
 
+/// The stepping of a part.
+///
+/// The second has CMP, bit 1 of A0h: with it and a BP number from 1 to 6, the protected blocks are
+/// those that would be open without it.
+#[repr(u8)]
+#[derive(Clone, Copy, Debug, Default, PartialEq, Eq, Hash)]
+pub enum Stepping {
+    /// The first: bit 1 of A0h is always 0.
+    #[default]
+    First = 0,
+    /// The second: bit 1 of A0h is CMP.
+    Second = 1,
+}
+
 /// A part: the bytes of a page, the pages of a block, the blocks, and the two identity bytes.
 ///
 /// Sound: `data` at least 1, `data + spare` at most 4,096, `pages` from 1 to 256, `blocks` at least
@@ -20,6 +34,8 @@ pub struct Geometry {
     pub blocks: u32,
     /// The two bytes that Read ID answers.
     pub identity: [u8; 2],
+    /// The stepping.
+    pub stepping: Stepping,
 }
 
 impl Geometry {
@@ -31,6 +47,11 @@ impl Geometry {
     /// The small bench part: 16 + 4 bytes a page, 4 pages a block, 8 blocks.
     pub fn bench() -> Self {
         ffi::bench()
+    }
+
+    /// The same part of another stepping.
+    pub fn with_stepping(self, stepping: Stepping) -> Self {
+        Geometry { stepping, ..self }
     }
 
     /// Whether the geometry is sound.

@@ -29,7 +29,7 @@
 //! # Ok::<(), sleetanvil::Refusal>(())
 //! ```
 
-use crate::{ffi, Geometry, Refusal};
+use crate::{ffi, Geometry, Refusal, Stepping};
 
 /// The bytes of a copy.
 pub const LEN: usize = 256;
@@ -62,6 +62,7 @@ impl Sizes {
             pages: self.pages,
             blocks: self.blocks,
             identity,
+            stepping: Stepping::First,
         }
     }
 }

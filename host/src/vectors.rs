@@ -13,7 +13,7 @@ use std::path::PathBuf;
 use std::{env, fs};
 
 use crate::case::{hex, untouched_output, Case, Fill, Outcome, Subject};
-use crate::{paper, Geometry, Job, Refusal, State};
+use crate::{paper, Geometry, Job, Refusal, State, Stepping};
 
 /// The longest buffer that the program in `crates/vectors` lends.
 const LONGEST_BUFFER: usize = 65_536;
@@ -164,6 +164,7 @@ fn setup(numbers: &str) -> Result<Case, String> {
     (case.cells, case.cache) = (fill(), fill());
     case.counts = Fill::constant(next() as usize, next() as u8);
     case.room = next() as usize;
+    case.geometry.stepping = stepping(next())?;
 
     match numbers.find(|&number| number != 0) {
         Some(number) => Err(format!("{number:X} stands behind the numbers of a setup")),
@@ -190,6 +191,15 @@ fn flag(number: u32) -> Result<u8, String> {
     match number {
         0 | 1 => Ok(number as u8),
         _ => Err(format!("neither 0 nor 1: {number:X}")),
+    }
+}
+
+/// The stepping of a number.
+fn stepping(number: u32) -> Result<Stepping, String> {
+    match number {
+        0 => Ok(Stepping::First),
+        1 => Ok(Stepping::Second),
+        _ => Err(format!("no stepping has the number {number:X}")),
     }
 }
 

@@ -8,10 +8,10 @@ mod support;
 
 use std::collections::BTreeMap;
 
-use sleetanvil::case::{hex, model, model_on, untouched_output, Buffers, Case, Outcome};
+use sleetanvil::case::{hex, model, model_on, untouched_output, Buffers, Case, Fill, Outcome};
 use sleetanvil::lent;
 use sleetanvil::raw::{self, RawRecord};
-use sleetanvil::{paper, Answer, Geometry, Log, Record, Refusal, State};
+use sleetanvil::{paper, Answer, Geometry, Log, Record, Refusal, State, Stepping};
 use support::compare::{answer_difference, bytes_difference, difference, library, library_on};
 use support::generate::{cache_read, Generator};
 use support::hunt::{cases, hunt, report, seed};
@@ -452,7 +452,8 @@ fn named_parts_and_power_up_agree() {
     );
 }
 
-/// Logs on the real part, one after the other on the same 71 million cells.
+/// Logs on the real part, one after the other on the same 71 million cells. The second half of them runs
+/// on the second stepping, which takes the first one's state as it is.
 #[test]
 fn the_real_part_agrees() {
     const LOGS: u64 = 400;
@@ -462,6 +463,9 @@ fn the_real_part_agrees() {
     let mut right = left.clone();
     for number in 0..LOGS {
         let mut generator = Generator::new(seed, number);
+        if number == LOGS / 2 {
+            case.geometry.stepping = Stepping::Second;
+        }
         if generator.rng.percent(30) {
             case.state = generator.sound_state(&case.geometry);
         }
@@ -485,6 +489,91 @@ fn the_real_part_agrees() {
             );
         }
         case.state = answers[0].state;
+    }
+}
+
+/// Both steppings.
+const STEPPINGS: [Stepping; 2] = [Stepping::First, Stepping::Second];
+
+/// Small parts of both steppings: pages per block and blocks, of few blocks and of some more.
+fn small_parts() -> impl Iterator<Item = Geometry> {
+    let few = (1..=17).map(|blocks| (1, blocks));
+    let more = [
+        (2, 5),
+        (3, 8),
+        (1, 31),
+        (1, 64),
+        (1, 65),
+        (1, 127),
+        (1, 128),
+    ];
+    few.chain(more).flat_map(|(pages, blocks)| {
+        STEPPINGS.map(|stepping| Geometry {
+            data: 1,
+            spare: 0,
+            pages,
+            blocks,
+            stepping,
+            ..Geometry::bench()
+        })
+    })
+}
+
+/// Each block is erased, and its last page programmed; the status is read behind each.
+fn try_each_block(geometry: &Geometry, log: &mut Log) {
+    for block in 0..geometry.blocks {
+        for (code, page) in [(0xD8, 0), (0x10, geometry.pages - 1)] {
+            let [_, _, high, low] = (block * geometry.pages + page).to_be_bytes();
+            log.transfer(&[0x06]);
+            log.transfer(&[code, 0x00, high, low]);
+            log.transfer(&[0x0F, 0xC0, 0x00]);
+            log.push(Record::Work(geometry.pages as u16));
+        }
+    }
+}
+
+/// Every value written to A0h on every small part, and every one handed in there: what is read back,
+/// what is refused, and which blocks an erase and a program find open.
+#[test]
+fn every_value_of_a0_agrees() {
+    for geometry in small_parts() {
+        let idle = State {
+            a0: 0x00,
+            c0: 0x00,
+            job: 0,
+            ..State::power_up()
+        };
+        let mut handed_in = Log::new();
+        try_each_block(&geometry, &mut handed_in);
+        let mut refused = 0;
+        for value in 0..=0xFF {
+            let mut written = Log::new();
+            written.transfer(&[0x1F, 0xA0, value]);
+            written.transfer(&[0x0F, 0xA0, 0x00]);
+            try_each_block(&geometry, &mut written);
+            let with_value = State { a0: value, ..idle };
+            for (state, log) in [(idle, &written), (with_value, &handed_in)] {
+                let power_up = Case::power_up(geometry, log.as_bytes());
+                let case = Case {
+                    state,
+                    cells: Fill::counting(power_up.cells.len, 3, 7),
+                    cache: Fill::constant(power_up.cache.len, 0x5A),
+                    counts: Fill::constant(power_up.counts.len, 2),
+                    ..power_up
+                };
+                let (library, model) = (library(&case), model(&case));
+                if let Some(difference) = difference(&library, &model) {
+                    panic!("A0h {value:02X}h: {difference}\n{case}");
+                }
+                refused += usize::from(model.answer.refusal == Some(Refusal::BadState));
+            }
+        }
+        // Of the eight bits, five are in the mask of the first stepping, and six in that of the second.
+        let sound = match geometry.stepping {
+            Stepping::First => 32,
+            Stepping::Second => 64,
+        };
+        assert_eq!(refused, 256 - sound, "{geometry:?}");
     }
 }
 
@@ -620,6 +709,118 @@ fn resets(state: &State, record: paper::Record) -> bool {
     risen && (state.instruction, state.count) == (0xFF, 1)
 }
 
+/// What a program or an erase that takes effect asks of the protection.
+#[derive(Clone, Copy)]
+struct Asked {
+    stepping: Stepping,
+    /// All blocks.
+    blocks: usize,
+    /// 10h or D8h.
+    code: u16,
+    /// A0h as it acts.
+    a0: u8,
+    /// The row, which is in the array.
+    row: usize,
+    /// Its block.
+    block: usize,
+}
+
+impl Asked {
+    /// The question of a record, if it is one: chip select rises, WEL is 1, the row is in the array.
+    fn of(geometry: &Geometry, state: &State, record: paper::Record) -> Option<Self> {
+        let risen = state.selected == 1 && record == paper::Record::Deselect;
+        let acts = matches!(state.instruction, 0x10 | 0xD8) && state.count == 4;
+        let row = usize::from(u16::from_be_bytes([state.second, state.third]));
+        let (pages, blocks) = (geometry.pages as usize, geometry.blocks as usize);
+        let asks = risen && acts && state.c0 & 0x02 != 0 && row < pages * blocks;
+        asks.then(|| Asked {
+            stepping: geometry.stepping,
+            blocks,
+            code: state.instruction,
+            a0: state.a0,
+            row,
+            block: row / pages,
+        })
+    }
+
+    /// The BP number.
+    fn number(&self) -> usize {
+        usize::from(self.a0 >> 3 & 7)
+    }
+
+    fn inverted(&self) -> bool {
+        self.a0 & 0x04 != 0
+    }
+
+    /// Whether the stepping has CMP, and it is 1.
+    fn complemented(&self) -> bool {
+        self.stepping == Stepping::Second && self.a0 & 0x02 != 0
+    }
+
+    /// How many blocks the BP number counts off.
+    fn counted(&self) -> usize {
+        match self.number() {
+            0 => 0,
+            number => self.blocks >> (7 - number),
+        }
+    }
+
+    /// Whether the block is among so many at an end, the lowest or the highest.
+    fn is_among(&self, count: usize, lowest: bool) -> bool {
+        if lowest {
+            self.block < count
+        } else {
+            self.block + count >= self.blocks
+        }
+    }
+
+    /// Whether the block is protected where there is no CMP.
+    fn is_protected_plain(&self) -> bool {
+        self.is_among(self.counted(), self.inverted())
+    }
+
+    /// Whether the block is protected.
+    fn is_protected(&self) -> bool {
+        let turned = self.complemented() && (1..=6).contains(&self.number());
+        self.is_protected_plain() != turned
+    }
+
+    /// Whether the block is at either side of the border between protected and open blocks. The BP
+    /// number is from 1 to 6.
+    fn is_at_the_border(&self) -> bool {
+        let border = match self.inverted() {
+            true => self.counted(),
+            false => self.blocks - self.counted(),
+        };
+        self.block == border || self.block + 1 == border
+    }
+}
+
+/// Whether a write of A0h comes with a record.
+fn writes_a0(state: &State, record: paper::Record) -> bool {
+    let risen = state.selected == 1 && record == paper::Record::Deselect;
+    risen && (state.instruction, state.count, state.first) == (0x1F, 3, 0xA0)
+}
+
+/// Whether BRWD and a low WP# lock A0h.
+fn is_locked(state: &State) -> bool {
+    state.a0 & 0x80 != 0 && state.wp == 0
+}
+
+/// Whether a program or an erase in progress is in a block that is protected by CMP.
+fn works_under_cmp(geometry: &Geometry, state: &State) -> bool {
+    let row = usize::from(state.row);
+    let asked = Asked {
+        stepping: geometry.stepping,
+        blocks: geometry.blocks as usize,
+        code: 0,
+        a0: state.a0,
+        row,
+        block: row / geometry.pages as usize,
+    };
+    matches!(state.job, 2 | 3) && asked.is_protected() && !asked.is_protected_plain()
+}
+
 /// Whether a record is a shift that a cache read answers.
 fn answers_from_cache(state: &State, record: paper::Record) -> bool {
     let reading = state.selected == 1 && state.instruction == 0x03 && state.count >= 4;
@@ -694,6 +895,41 @@ mod impostors {
         ("goes round on no page of 4,096 bytes", not_on_the_longest),
         ("tells column P behind the last byte", tells_column_p),
         ("moves the column by the idle byte", moves_by_the_idle_byte),
+        ("takes every part for the first stepping", all_first),
+        ("takes every part for the second stepping", all_second),
+        ("drops CMP as A0h is written", drops_cmp),
+        ("keeps bit 1 on the first stepping", keeps_bit_1),
+        ("complements with b 0 too", complements_with_0),
+        ("complements with b 7 too", complements_with_7),
+        ("does not complement with b 1", not_with_1),
+        ("does not complement with b 6", not_with_6),
+        (
+            "complements only where a block is counted off",
+            not_with_none_counted,
+        ),
+        ("ignores INV with CMP", ignores_inv_with_cmp),
+        ("takes CMP for a second INV", takes_cmp_for_inv),
+        ("takes INV for CMP", takes_inv_for_cmp),
+        ("complements at the wrong end", at_the_wrong_end),
+        ("complements for erases alone", for_erases_alone),
+        ("complements for programs alone", for_programs_alone),
+        ("rounds what CMP protects down", rounds_down_with_cmp),
+        ("protects a block more with CMP", one_more_with_cmp),
+        ("protects a block less with CMP", one_less_with_cmp),
+        ("protects all with CMP", all_with_cmp),
+        ("protects none with CMP", none_with_cmp),
+        ("keeps CMP through a power loss", keeps_cmp_without_power),
+        ("clears CMP by a reset", clears_cmp_by_reset),
+        ("writes CMP though A0h is locked", writes_locked_cmp),
+        ("reads CMP back as 0", reads_no_cmp),
+        ("takes bit 1 handed in on the first stepping", takes_bit_1),
+        ("takes bit 0 handed in on the second stepping", takes_bit_0),
+        ("takes bit 6 handed in on the second stepping", takes_bit_6),
+        ("refuses CMP handed in on the second stepping", refuses_cmp),
+        (
+            "stops what works in a block that CMP protects",
+            stops_where_protected,
+        ),
     ];
 
     #[test]
@@ -708,7 +944,8 @@ mod impostors {
     fn the_model_itself_is_not() {
         let in_steps = |case: &Case| with_next_columns(case, |right, _| right);
         let by_address = |case: &Case| with_column_addresses(case, |column, _| column);
-        for subject in [model, in_steps, by_address] {
+        let by_the_rule = |case: &Case| with_protection(case, |asked| asked.is_protected());
+        for subject in [model, in_steps, by_address, by_the_rule] {
             assert!(hunt(subject, model, 1, 2000).is_none());
         }
     }
@@ -1150,6 +1387,247 @@ mod impostors {
         })
     }
 
+    fn all_first(case: &Case) -> Outcome {
+        on_stepping(case, Stepping::First)
+    }
+
+    fn all_second(case: &Case) -> Outcome {
+        on_stepping(case, Stepping::Second)
+    }
+
+    fn drops_cmp(case: &Case) -> Outcome {
+        with_changes(case, |before, record, after, _| {
+            if writes_a0(before, record) && !is_locked(before) {
+                after.a0 &= !0x02;
+            }
+        })
+    }
+
+    /// It is only stored there: no block is protected by it.
+    fn keeps_bit_1(case: &Case) -> Outcome {
+        if case.geometry.stepping == Stepping::Second || case.state.a0 & 0x02 != 0 {
+            return model(case);
+        }
+        let mut other = case.clone();
+        other.geometry.stepping = Stepping::Second;
+        with_protection(&other, |asked| asked.is_protected_plain())
+    }
+
+    fn complements_with_0(case: &Case) -> Outcome {
+        with_cmp(case, |asked| asked.number() == 0 || asked.is_protected())
+    }
+
+    fn complements_with_7(case: &Case) -> Outcome {
+        with_cmp(case, |asked| asked.number() != 7 && asked.is_protected())
+    }
+
+    fn not_with_1(case: &Case) -> Outcome {
+        with_cmp(case, |asked| match asked.number() {
+            1 => asked.is_protected_plain(),
+            _ => asked.is_protected(),
+        })
+    }
+
+    fn not_with_6(case: &Case) -> Outcome {
+        with_cmp(case, |asked| match asked.number() {
+            6 => asked.is_protected_plain(),
+            _ => asked.is_protected(),
+        })
+    }
+
+    fn not_with_none_counted(case: &Case) -> Outcome {
+        with_cmp(case, |asked| asked.counted() > 0 && asked.is_protected())
+    }
+
+    fn ignores_inv_with_cmp(case: &Case) -> Outcome {
+        with_cmp(case, |asked| {
+            let a0 = asked.a0 & !0x04;
+            Asked { a0, ..*asked }.is_protected()
+        })
+    }
+
+    fn takes_cmp_for_inv(case: &Case) -> Outcome {
+        with_cmp(case, |asked| {
+            asked.is_among(asked.counted(), !asked.inverted())
+        })
+    }
+
+    /// And the other way round.
+    fn takes_inv_for_cmp(case: &Case) -> Outcome {
+        with_protection(case, |asked| {
+            let others = asked.a0 & !0x06;
+            let a0 = match asked.stepping {
+                Stepping::First => asked.a0,
+                Stepping::Second => others | (asked.a0 & 0x02) << 1 | (asked.a0 & 0x04) >> 1,
+            };
+            Asked { a0, ..*asked }.is_protected()
+        })
+    }
+
+    fn at_the_wrong_end(case: &Case) -> Outcome {
+        with_cmp(case, |asked| match asked.number() {
+            0 => false,
+            7 => true,
+            _ => asked.is_among(asked.blocks - asked.counted(), asked.inverted()),
+        })
+    }
+
+    fn for_erases_alone(case: &Case) -> Outcome {
+        with_cmp(case, |asked| match asked.code {
+            0x10 => asked.is_protected_plain(),
+            _ => asked.is_protected(),
+        })
+    }
+
+    fn for_programs_alone(case: &Case) -> Outcome {
+        with_cmp(case, |asked| match asked.code {
+            0xD8 => asked.is_protected_plain(),
+            _ => asked.is_protected(),
+        })
+    }
+
+    fn rounds_down_with_cmp(case: &Case) -> Outcome {
+        with_other_count(case, |asked| {
+            asked.blocks - asked.blocks.div_ceil(1 << (7 - asked.number()))
+        })
+    }
+
+    fn one_more_with_cmp(case: &Case) -> Outcome {
+        with_other_count(case, |asked| asked.blocks - asked.counted() + 1)
+    }
+
+    fn one_less_with_cmp(case: &Case) -> Outcome {
+        with_other_count(case, |asked| asked.blocks - asked.counted() - 1)
+    }
+
+    fn all_with_cmp(case: &Case) -> Outcome {
+        with_other_count(case, |asked| asked.blocks)
+    }
+
+    fn none_with_cmp(case: &Case) -> Outcome {
+        with_other_count(case, |_| 0)
+    }
+
+    fn keeps_cmp_without_power(case: &Case) -> Outcome {
+        with_changes(case, |before, record, after, _| {
+            if record == paper::Record::Power {
+                after.a0 |= before.a0 & 0x02;
+            }
+        })
+    }
+
+    fn clears_cmp_by_reset(case: &Case) -> Outcome {
+        with_changes(case, |before, record, after, _| {
+            if resets(before, record) {
+                after.a0 &= !0x02;
+            }
+        })
+    }
+
+    fn writes_locked_cmp(case: &Case) -> Outcome {
+        let second = case.geometry.stepping == Stepping::Second;
+        with_changes(case, |before, record, after, _| {
+            if second && writes_a0(before, record) && is_locked(before) {
+                after.a0 = before.a0 & !0x02 | before.second & 0x02;
+            }
+        })
+    }
+
+    fn reads_no_cmp(case: &Case) -> Outcome {
+        with_changes(case, |before, record, _, buffers| {
+            let reads = (before.selected, before.instruction, before.first) == (1, 0x0F, 0xA0);
+            if reads && before.count >= 2 && matches!(record, paper::Record::Shift(_)) {
+                buffers.out[0] &= !0x02;
+            }
+        })
+    }
+
+    fn takes_bit_1(case: &Case) -> Outcome {
+        let first = case.geometry.stepping == Stepping::First;
+        with_state_taken(case, |state| {
+            if first {
+                state.a0 &= !0x02;
+            }
+        })
+    }
+
+    fn takes_bit_0(case: &Case) -> Outcome {
+        let second = case.geometry.stepping == Stepping::Second;
+        with_state_taken(case, |state| {
+            if second {
+                state.a0 &= !0x01;
+            }
+        })
+    }
+
+    fn takes_bit_6(case: &Case) -> Outcome {
+        let second = case.geometry.stepping == Stepping::Second;
+        with_state_taken(case, |state| {
+            if second {
+                state.a0 &= !0x40;
+            }
+        })
+    }
+
+    fn refuses_cmp(case: &Case) -> Outcome {
+        match case.state.a0 & 0x02 {
+            0 => model(case),
+            _ => on_stepping(case, Stepping::First),
+        }
+    }
+
+    fn stops_where_protected(case: &Case) -> Outcome {
+        record_by_record(case, model_on, |record, mut before, buffers| {
+            let works = matches!(record, paper::Record::Work(1..)) && matches!(before.job, 2 | 3);
+            if works && works_under_cmp(&case.geometry, &before) {
+                make_idle(&mut before);
+            }
+            model_step(&case.geometry, record, before, buffers)
+        })
+    }
+
+    /// The model on the same part of a stepping.
+    fn on_stepping(case: &Case, stepping: Stepping) -> Outcome {
+        let mut other = case.clone();
+        other.geometry.stepping = stepping;
+        model(&other)
+    }
+
+    /// The model with another rule of protection: for what a program or an erase asks, A0h has all
+    /// blocks protected, or none.
+    fn with_protection(case: &Case, is_protected: impl Fn(&Asked) -> bool) -> Outcome {
+        record_by_record(case, model_on, |record, mut before, buffers| {
+            let asked = Asked::of(&case.geometry, &before, record);
+            if let Some(asked) = &asked {
+                before.a0 = if is_protected(asked) { 0x38 } else { 0x00 };
+            }
+            let mut answer = model_step(&case.geometry, record, before, buffers);
+            if let Some(asked) = asked {
+                answer.state.a0 = asked.a0;
+            }
+            answer
+        })
+    }
+
+    /// The same where CMP is 1 on the second stepping.
+    fn with_cmp(case: &Case, is_protected: impl Fn(&Asked) -> bool) -> Outcome {
+        with_protection(case, |asked| {
+            if asked.complemented() {
+                is_protected(asked)
+            } else {
+                asked.is_protected()
+            }
+        })
+    }
+
+    /// The same with another number of blocks that CMP protects, at the right end.
+    fn with_other_count(case: &Case, count: impl Fn(&Asked) -> usize) -> Outcome {
+        with_cmp(case, |asked| match asked.number() {
+            1..=6 => asked.is_among(count(asked), !asked.inverted()),
+            _ => asked.is_protected(),
+        })
+    }
+
     /// An answer of a cache read.
     struct ReadOut {
         /// The first byte of the transfer; none if it was handed in.
@@ -1485,5 +1963,145 @@ mod completeness {
             let seen = seen.get(what).copied().unwrap_or(0);
             assert!(seen > least, "{what}: {seen}");
         }
+    }
+
+    /// Programs and erases meet CMP with every BP number, from both ends, at the borders and where no
+    /// block is counted off; logs set and clear it; states have it, and bits that are in no mask.
+    #[test]
+    fn logs_meet_cmp() {
+        // What can be met, and more than how often it is.
+        const REACHED: [(&str, u32); 37] = [
+            ("a part of the first stepping", 9000),
+            ("a part of the second stepping", 9000),
+            ("CMP handed in, taken", 800),
+            ("bit 1 handed in on the first stepping, refused", 4),
+            ("bit 0 handed in on the second stepping, refused", 4),
+            ("bit 6 handed in on the second stepping, refused", 4),
+            ("CMP set by a log", 500),
+            ("CMP cleared by a log", 300),
+            ("CMP locked at 0", 20),
+            ("CMP locked at 1", 90),
+            ("CMP read back", 200),
+            ("bit 1 written on the first stepping", 700),
+            ("power lost with CMP", 80),
+            ("reset with CMP", 450),
+            ("work in a block that CMP protects", 70),
+            ("erase begun, INV 0", 10),
+            ("erase begun, INV 1", 10),
+            ("erase refused, INV 0", 10),
+            ("erase refused, INV 1", 10),
+            ("erase refused, none counted off, INV 0", 70),
+            ("erase refused, none counted off, INV 1", 70),
+            ("erase begun, b 0", 30),
+            ("erase refused, b 7", 45),
+            ("erase begun at the border, of 32 blocks or more", 0),
+            ("erase refused at the border, of 32 blocks or more", 0),
+            ("erase refused for its row", 40),
+            ("program begun, INV 0", 15),
+            ("program begun, INV 1", 15),
+            ("program refused, INV 0", 15),
+            ("program refused, INV 1", 15),
+            ("program refused, none counted off, INV 0", 80),
+            ("program refused, none counted off, INV 1", 80),
+            ("program begun, b 0", 35),
+            ("program refused, b 7", 55),
+            ("program begun at the border, of 32 blocks or more", 2),
+            ("program refused at the border, of 32 blocks or more", 1),
+            ("program refused for its row", 40),
+        ];
+        let mut seen = BTreeMap::new();
+        // On the second stepping, by BP number, INV and CMP.
+        let mut asked_with = [[[0; 2]; 2]; 8];
+        for number in 0..20_000 {
+            let case = Generator::new(seed() ^ 17, number).case();
+            let mut saw = |what: &str| *seen.entry(what.to_string()).or_insert(0) += 1;
+            let second = case.geometry.stepping == Stepping::Second;
+            saw(match second {
+                false => "a part of the first stepping",
+                true => "a part of the second stepping",
+            });
+            let outcome = record_by_record(&case, model_on, |record, before, buffers| {
+                let cmp = before.a0 & 0x02 != 0;
+                let asked = Asked::of(&case.geometry, &before, record);
+                let full = |asked: Asked| asked.code == 0x10 && buffers.counts[asked.row] >= 4;
+                let full = asked.is_some_and(full);
+                let answer = model_step(&case.geometry, record, before, buffers);
+                if answer.refusal.is_some() {
+                    return answer;
+                }
+                if writes_a0(&before, record) {
+                    let one = before.second & 0x02 != 0;
+                    match (second, is_locked(&before), cmp, one) {
+                        (false, _, _, true) => saw("bit 1 written on the first stepping"),
+                        (true, false, false, true) => saw("CMP set by a log"),
+                        (true, false, true, false) => saw("CMP cleared by a log"),
+                        (true, true, false, true) => saw("CMP locked at 0"),
+                        (true, true, true, false) => saw("CMP locked at 1"),
+                        _ => {}
+                    }
+                }
+                let works = matches!(record, paper::Record::Work(1..));
+                if works && works_under_cmp(&case.geometry, &before) {
+                    saw("work in a block that CMP protects");
+                }
+                if let Some(asked) = asked.filter(|_| second) {
+                    let (inv, cmp) = (asked.inverted(), asked.complemented());
+                    asked_with[asked.number()][usize::from(inv)][usize::from(cmp)] += 1;
+                }
+                if !cmp {
+                    return answer;
+                }
+                let reads = (before.selected, before.instruction, before.first) == (1, 0x0F, 0xA0);
+                match record {
+                    paper::Record::Shift(_) if reads && before.count >= 2 => saw("CMP read back"),
+                    paper::Record::Power => saw("power lost with CMP"),
+                    _ if resets(&before, record) => saw("reset with CMP"),
+                    _ => {}
+                }
+                let verb = match before.instruction {
+                    0x10 => "program",
+                    _ => "erase",
+                };
+                if let Some(asked) = asked.filter(|_| !full) {
+                    let refused = answer.state.job == 0;
+                    let what = if refused { "refused" } else { "begun" };
+                    let inv = u8::from(asked.inverted());
+                    saw(&match (asked.number(), asked.counted()) {
+                        (b @ (0 | 7), _) => format!("{verb} {what}, b {b}"),
+                        (_, 0) => format!("{verb} {what}, none counted off, INV {inv}"),
+                        _ => format!("{verb} {what}, INV {inv}"),
+                    });
+                    let bordered = (1..=6).contains(&asked.number()) && asked.counted() > 0;
+                    if bordered && asked.blocks >= 32 && asked.is_at_the_border() {
+                        saw(&format!(
+                            "{verb} {what} at the border, of 32 blocks or more"
+                        ));
+                    }
+                } else if asked.is_none() && answer.state.c0 & !before.c0 & 0x0C != 0 {
+                    saw(&format!("{verb} refused for its row"));
+                }
+                answer
+            });
+            let refused = outcome.answer.refusal == Some(Refusal::BadState);
+            let others = State {
+                a0: 0x00,
+                ..case.state
+            };
+            let by_a0 = paper::State::from(others).is_sound(&case.geometry.into());
+            match (second, case.state.a0 & 0x43) {
+                _ if !by_a0 => {}
+                (false, 0x02) if refused => saw("bit 1 handed in on the first stepping, refused"),
+                (true, 0x01) if refused => saw("bit 0 handed in on the second stepping, refused"),
+                (true, 0x40) if refused => saw("bit 6 handed in on the second stepping, refused"),
+                (true, 0x02) if outcome.answer.records > 0 => saw("CMP handed in, taken"),
+                _ => {}
+            }
+        }
+        for (what, least) in REACHED {
+            let seen = seen.get(what).copied().unwrap_or(0);
+            assert!(seen > least, "{what}: {seen}");
+        }
+        let fewest = asked_with.iter().flatten().flatten().min();
+        assert!(fewest > Some(&40), "{asked_with:?}");
     }
 }

@@ -1,16 +1,17 @@
 //! Document 01's own examples, each worked out from the paper: its replay, its thirteen cases, the
 //! protected blocks as the docs have them, and the errors that look right; and document 02's items 2, a
-//! reset that takes time, and 6, reading past the page's end.
+//! reset that takes time, 6, reading past the page's end, and 7, the second stepping.
 //!
 //! Each is put to the independent model and to the proved library.
 
 mod support;
 
 use std::fs;
+use std::ops::Range;
 use std::path::Path;
 
 use sleetanvil::case::{model, model_on, Buffers, Case, Fill, Outcome, Subject};
-use sleetanvil::{lent, paper, raw, Answer, Geometry, Job, Operation, Refusal, State};
+use sleetanvil::{lent, paper, raw, Answer, Geometry, Job, Operation, Refusal, State, Stepping};
 use support::compare::{library, library_on};
 
 const BOTH: [(&str, Subject); 2] = [("paper", model), ("library", library)];
@@ -80,18 +81,21 @@ fn the_replay() {
     });
 }
 
-/// Whether a program on a row is refused as protected.
+/// Whether a program in a block is refused as protected, and an erase of it too.
 fn is_protected(geometry: Geometry, a0: u8, block: u16, subject: Subject) -> bool {
     let row = block * geometry.pages as u16;
     let [high, low] = row.to_be_bytes();
-    let case = Case {
-        state: State { a0, ..idle(0x02) },
-        ..Case::power_up(geometry, &transfer(&[0x10, 0, high, low]))
+    let status = |code| {
+        let case = Case {
+            state: State { a0, ..idle(0x02) },
+            ..Case::power_up(geometry, &transfer(&[code, 0, high, low]))
+        };
+        subject(&case).answer.state.c0
     };
-    match subject(&case).answer.state.c0 {
-        0x08 => true,
-        0x01 => false,
-        status => panic!("status {status:02X}h"),
+    match (status(0x10), status(0xD8)) {
+        (0x08, 0x04) => true,
+        (0x01, 0x01) => false,
+        (program, erase) => panic!("status {program:02X}h and {erase:02X}h"),
     }
 }
 
@@ -104,15 +108,20 @@ fn protected(geometry: Geometry, a0: u8, expected: &[u16]) {
     }
 }
 
-/// As many blocks as the FM25S005BI3 has, each of one byte.
-fn blocks_512() -> Geometry {
+/// A part of so many blocks, each of one byte.
+fn of_blocks(blocks: u32) -> Geometry {
     Geometry {
         data: 1,
         spare: 0,
         pages: 1,
-        blocks: 512,
+        blocks,
         ..Geometry::bench()
     }
+}
+
+/// As many blocks as the FM25S005BI3 has.
+fn blocks_512() -> Geometry {
+    of_blocks(512)
 }
 
 #[test]
@@ -171,6 +180,356 @@ fn the_table_of_protected_blocks() {
             };
             assert_eq!(count, blocks.len().to_string(), "{line}");
             protected(blocks_512(), b << 3 | inv, &blocks);
+        }
+    }
+}
+
+/// CMP, the bit that A0h has on the second stepping.
+const CMP: u8 = 0x02;
+const INV: u8 = 0x04;
+
+/// The bench part of the second stepping.
+fn second() -> Geometry {
+    Geometry::bench().with_stepping(Stepping::Second)
+}
+
+/// A case on the bench part of the second stepping.
+fn on_second(state: State, log: &[u8]) -> Case {
+    Case {
+        state,
+        ..Case::power_up(second(), log)
+    }
+}
+
+/// The protected blocks of a BP number, from 0 to 7: plain, with INV, with CMP, with both.
+type Protected = [[Range<u16>; 4]; 8];
+
+/// Which blocks are protected on parts of some numbers of blocks, worked out by hand from the words of
+/// documents 01 and 02.
+const BORDERS: [(u32, Protected); 5] = [
+    (
+        16,
+        [
+            [0..0, 0..0, 0..0, 0..0],
+            [0..0, 0..0, 0..16, 0..16],
+            [0..0, 0..0, 0..16, 0..16],
+            [15..16, 0..1, 0..15, 1..16],
+            [14..16, 0..2, 0..14, 2..16],
+            [12..16, 0..4, 0..12, 4..16],
+            [8..16, 0..8, 0..8, 8..16],
+            [0..16, 0..16, 0..16, 0..16],
+        ],
+    ),
+    (
+        8,
+        [
+            [0..0, 0..0, 0..0, 0..0],
+            [0..0, 0..0, 0..8, 0..8],
+            [0..0, 0..0, 0..8, 0..8],
+            [0..0, 0..0, 0..8, 0..8],
+            [7..8, 0..1, 0..7, 1..8],
+            [6..8, 0..2, 0..6, 2..8],
+            [4..8, 0..4, 0..4, 4..8],
+            [0..8, 0..8, 0..8, 0..8],
+        ],
+    ),
+    (
+        512,
+        [
+            [0..0, 0..0, 0..0, 0..0],
+            [504..512, 0..8, 0..504, 8..512],
+            [496..512, 0..16, 0..496, 16..512],
+            [480..512, 0..32, 0..480, 32..512],
+            [448..512, 0..64, 0..448, 64..512],
+            [384..512, 0..128, 0..384, 128..512],
+            [256..512, 0..256, 0..256, 256..512],
+            [0..512, 0..512, 0..512, 0..512],
+        ],
+    ),
+    (
+        1,
+        [
+            [0..0, 0..0, 0..0, 0..0],
+            [0..0, 0..0, 0..1, 0..1],
+            [0..0, 0..0, 0..1, 0..1],
+            [0..0, 0..0, 0..1, 0..1],
+            [0..0, 0..0, 0..1, 0..1],
+            [0..0, 0..0, 0..1, 0..1],
+            [0..0, 0..0, 0..1, 0..1],
+            [0..1, 0..1, 0..1, 0..1],
+        ],
+    ),
+    (
+        3,
+        [
+            [0..0, 0..0, 0..0, 0..0],
+            [0..0, 0..0, 0..3, 0..3],
+            [0..0, 0..0, 0..3, 0..3],
+            [0..0, 0..0, 0..3, 0..3],
+            [0..0, 0..0, 0..3, 0..3],
+            [0..0, 0..0, 0..3, 0..3],
+            [2..3, 0..1, 0..2, 1..3],
+            [0..3, 0..3, 0..3, 0..3],
+        ],
+    ),
+];
+
+/// Each line of the table, on the second stepping with and without CMP, on the first without it.
+#[test]
+fn protected_blocks_of_both_steppings() {
+    for (blocks, lines) in BORDERS {
+        let first = of_blocks(blocks);
+        let second = first.with_stepping(Stepping::Second);
+        for (b, line) in (0..).zip(lines) {
+            for (bits, range) in [0, INV, CMP, CMP | INV].into_iter().zip(line) {
+                let a0 = b << 3 | bits;
+                let expected: Vec<u16> = range.collect();
+                protected(second, a0, &expected);
+                if bits & CMP == 0 {
+                    protected(first, a0, &expected);
+                    // BRWD protects nothing, on either.
+                    protected(first, a0 | 0x80, &expected);
+                }
+                protected(second, a0 | 0x80, &expected);
+            }
+        }
+    }
+}
+
+/// With CMP the blocks are counted whole: 127 / 16 is 7, rounded down, so 120 are protected.
+#[test]
+fn a_remainder_is_protected_with_cmp() {
+    let part = of_blocks(127).with_stepping(Stepping::Second);
+    let (lowest, highest): (Vec<u16>, Vec<u16>) = ((0..120).collect(), (7..127).collect());
+    protected(part, 3 << 3 | CMP, &lowest);
+    protected(part, 3 << 3 | CMP | INV, &highest);
+}
+
+/// A row outside the array fails for its row, whatever CMP is.
+#[test]
+fn a_row_outside_fails_with_cmp_too() {
+    for a0 in [
+        0x00,
+        CMP,
+        0x20,
+        0x20 | CMP,
+        0x24 | CMP,
+        0x08 | CMP,
+        0x38 | CMP,
+    ] {
+        for row in [0x20, 0xFF] {
+            for (code, status) in [(0x10, 0x08), (0xD8, 0x04)] {
+                let state = State { a0, ..idle(0x02) };
+                let case = on_second(state, &transfer(&[code, 0, 0, row]));
+                on_both(&case, |outcome| {
+                    assert_eq!(outcome.answer.refusal, None);
+                    assert_eq!(outcome.answer.state.c0, status, "A0h {a0:02X}h, row {row}");
+                });
+            }
+        }
+    }
+}
+
+/// The mask of A0h is BCh on the first stepping and BEh on the second; what is written is read back.
+#[test]
+fn a0_through_the_mask_of_its_stepping() {
+    for (value, by_first, by_second) in [
+        (0xFF, 0xBC, 0xBE),
+        (0x00, 0x00, 0x00),
+        (0x02, 0x00, 0x02),
+        (0x3A, 0x38, 0x3A),
+        (0x41, 0x00, 0x00),
+        (0x43, 0x00, 0x02),
+        (0xBE, 0xBC, 0xBE),
+        (0xFD, 0xBC, 0xBC),
+    ] {
+        let log = [
+            transfer(&[0x1F, 0xA0, value]),
+            transfer(&[0x0F, 0xA0, 0x00, 0x00]),
+        ]
+        .concat();
+        let parts = [(Geometry::bench(), by_first), (second(), by_second)];
+        for (geometry, expected) in parts {
+            let case = Case {
+                state: idle(0x00),
+                ..Case::power_up(geometry, &log)
+            };
+            on_both(&case, |outcome| {
+                assert_eq!(outcome.answer.state.a0, expected, "{value:02X}h");
+                assert_eq!(outcome.buffers.out[5..7], [expected; 2], "{value:02X}h");
+            });
+        }
+    }
+}
+
+/// The other registers have the same masks on both steppings.
+#[test]
+fn other_masks_do_not_depend_on_the_stepping() {
+    let set = |address| transfer(&[0x1F, address, 0xFF]);
+    let log = [set(0xB0), set(0xC0), set(0xD0), set(0xA1), set(0x20)].concat();
+    on_both(&on_second(idle(0x00), &log), |outcome| {
+        let State { a0, b0, c0, d0, .. } = outcome.answer.state;
+        assert_eq!([a0, b0, c0, d0], [0x00, 0x11, 0x00, 0x60]);
+    });
+}
+
+/// All values of A0h handed in: bits 6 and 0 are in no mask, bit 1 in that of the second stepping.
+#[test]
+fn states_with_bits_of_a0() {
+    for a0 in 0..=0xFF {
+        let state = State { a0, ..idle(0x00) };
+        let outside = a0 & 0x41 != 0;
+        let cases = [
+            (bench(state, &[]), outside || a0 & 0x02 != 0),
+            (on_second(state, &[]), outside),
+        ];
+        for (case, bad) in cases {
+            if bad {
+                refused(&case, Refusal::BadState);
+            } else {
+                on_both(&case, |outcome| {
+                    assert_eq!(outcome.answer.refusal, None, "{a0:02X}h");
+                    assert_eq!(outcome.answer.state, state, "{a0:02X}h");
+                });
+            }
+            let (geometry, part) = (case.geometry, case.geometry.into());
+            assert_eq!(paper::State::from(state).is_sound(&part), !bad, "{a0:02X}h");
+            assert_eq!(state.is_sound(&geometry), !bad, "{a0:02X}h");
+        }
+    }
+}
+
+/// The power-up value is 38h on both, so a loss of power clears CMP.
+#[test]
+fn power_loss_clears_cmp() {
+    let state = State {
+        a0: 0xBE,
+        ..idle(0x02)
+    };
+    for wp in [0, 1] {
+        let case = on_second(State { wp, ..state }, &[6]);
+        on_both(&case, |outcome| {
+            let power_up = State::power_up();
+            assert_eq!(outcome.answer.state, State { wp, ..power_up });
+        });
+    }
+    assert_eq!(State::power_up().a0, 0x38);
+}
+
+/// A reset leaves A0h, and with it CMP, within its units and behind them.
+#[test]
+fn a_reset_leaves_cmp() {
+    // b 4 of 8 blocks: with CMP block 7 alone is open.
+    let a0 = 0x20 | CMP;
+    let state = State { a0, ..idle(0x02) };
+    for units in [0, 7, 8] {
+        let log = [transfer(&[0xFF]), work(units)].concat();
+        on_both(&on_second(state, &log), |outcome| {
+            assert_eq!(outcome.answer.state.a0, a0);
+        });
+    }
+    for (row, status) in [(0x1B, 0x04), (0x1C, 0x01)] {
+        let log = [transfer(&[0xFF]), work(8), transfer(&[0xD8, 0, 0, row])].concat();
+        on_both(&on_second(state, &log), |outcome| {
+            assert_eq!(outcome.answer.state.c0, status, "row {row}");
+        });
+    }
+}
+
+/// BRWD and a low WP# lock CMP with the rest of A0h, whether it is 0 or 1.
+#[test]
+fn brwd_locks_cmp() {
+    for (before, value, locked, open) in [
+        (0xA2, 0xA0, 0xA2, 0xA0),
+        (0xA0, 0xA2, 0xA0, 0xA2),
+        (0xBE, 0x00, 0xBE, 0x00),
+        (0x22, 0x20, 0x20, 0x20),
+        (0x20, 0x22, 0x22, 0x22),
+    ] {
+        for (wp, expected) in [(0, locked), (1, open)] {
+            let state = State {
+                a0: before,
+                wp,
+                ..idle(0x00)
+            };
+            let case = on_second(state, &transfer(&[0x1F, 0xA0, value]));
+            on_both(&case, |outcome| {
+                assert_eq!(outcome.answer.state.a0, expected, "{before:02X}h, WP# {wp}");
+            });
+        }
+    }
+}
+
+/// An operation that has begun goes on, in a block that A0h protects too: a write of A0h is ignored
+/// while it does, and one that was handed in is not asked about its block.
+#[test]
+fn an_operation_goes_on_whatever_cmp_is() {
+    let write = transfer(&[0x1F, 0xA0, 0x20 | CMP]);
+    let open = State {
+        a0: 0x20,
+        ..idle(0x02)
+    };
+    // Block 1 is open with b 4, and protected with CMP.
+    let begun = [transfer(&[0xD8, 0, 0, 5]), work(30), write.clone()].concat();
+    let ended = [&begun[..], &work(50), &write].concat();
+    for (log, a0, status, cells) in [(begun, 0x20, 0x01, 80..110), (ended, 0x22, 0x00, 80..160)] {
+        let case = Case {
+            cells: Fill::constant(640, 0x11),
+            ..on_second(open, &log)
+        };
+        on_both(&case, |outcome| {
+            let State { a0: after, c0, .. } = outcome.answer.state;
+            assert_eq!((after, c0), (a0, status));
+            erased_alone(&outcome.buffers.cells, cells.clone());
+        });
+    }
+    let handed_in = State {
+        a0: 0x20 | CMP,
+        c0: 0x01,
+        job: 3,
+        row: 5,
+        units: 30,
+        ..idle(0x00)
+    };
+    let case = Case {
+        cells: Fill::constant(640, 0x11),
+        ..on_second(handed_in, &work(50))
+    };
+    on_both(&case, |outcome| {
+        assert_eq!(outcome.answer.state.c0, 0x00);
+        erased_alone(&outcome.buffers.cells, 110..160);
+    });
+}
+
+/// Cells of 11h, of which a range became FFh.
+fn erased_alone(cells: &[u8], range: Range<usize>) {
+    for (place, &cell) in cells.iter().enumerate() {
+        let byte = if range.contains(&place) { 0xFF } else { 0x11 };
+        assert_eq!(cell, byte, "cell {place}");
+    }
+}
+
+/// On the first stepping a log that writes bit 1 does what it does without.
+#[test]
+fn the_first_stepping_has_no_cmp() {
+    for b in 0..8 {
+        for inv in [0, INV] {
+            let log = |bit| {
+                let mut log = transfer(&[0x1F, 0xA0, b << 3 | inv | bit]);
+                for block in 0..8 {
+                    log.extend(transfer(&[0x06]));
+                    log.extend(transfer(&[0xD8, 0, 0, 4 * block]));
+                    log.extend(transfer(&[0x0F, 0xC0, 0x00]));
+                    log.extend(work(80));
+                }
+                log
+            };
+            for (name, subject) in BOTH {
+                let with = subject(&bench(idle(0x00), &log(CMP)));
+                let without = subject(&bench(idle(0x00), &log(0)));
+                assert_eq!(with, without, "{name}, b {b}");
+                assert_eq!(with.answer.state.a0, b << 3 | inv, "{name}");
+            }
         }
     }
 }
@@ -277,21 +636,14 @@ fn case_13_an_erase_cut_by_reset() {
     erased(&log, 80..110);
 }
 
-fn erased(log: &[u8], expected: std::ops::Range<usize>) {
+fn erased(log: &[u8], expected: Range<usize>) {
     let case = Case {
         cells: Fill::constant(640, 0x11),
         counts: Fill::constant(32, 3),
         ..bench(idle(0x02), log)
     };
     on_both(&case, |outcome| {
-        for (place, &cell) in outcome.buffers.cells.iter().enumerate() {
-            let byte = if expected.contains(&place) {
-                0xFF
-            } else {
-                0x11
-            };
-            assert_eq!(cell, byte, "cell {place}");
-        }
+        erased_alone(&outcome.buffers.cells, expected.clone());
         for (row, &count) in outcome.buffers.counts.iter().enumerate() {
             let programs = if (4..8).contains(&row) { 0 } else { 3 };
             assert_eq!(count, programs, "row {row}");

@@ -7,6 +7,7 @@ mod support;
 
 use sleetanvil::case::{model, Subject};
 use sleetanvil::vectors::{self, Vector};
+use sleetanvil::Stepping;
 use support::compare::library;
 
 #[test]
@@ -54,6 +55,22 @@ fn a_number_that_is_missing_is_0() {
 }
 
 #[test]
+fn the_29th_number_is_the_stepping() {
+    let a0 = |stepping: &str| {
+        let vector = format!("v|{POWER_UP}{stepping}|04 14 00 [1F A0 FF]");
+        let vector = Vector::read(&vector).expect("a vector");
+        (
+            vector.case.geometry.stepping,
+            model(&vector.case).answer.state.a0,
+        )
+    };
+    assert_eq!(a0(""), (Stepping::First, 0xBC));
+    assert_eq!(a0(" 0"), (Stepping::First, 0xBC));
+    assert_eq!(a0(" 1"), (Stepping::Second, 0xBE));
+    assert_eq!(a0(" 1 0"), (Stepping::Second, 0xBE));
+}
+
+#[test]
 fn what_is_no_vector_is_refused() {
     let long = format!("v|{POWER_UP}|{}", "06".repeat(2049));
     let refused = [
@@ -72,7 +89,9 @@ fn what_is_no_vector_is_refused() {
         "v|10|0",
         "v|10|[0x06]",
         &long,
-        &format!("v|{POWER_UP} 1|"),
+        &format!("v|{POWER_UP} 2|"),
+        &format!("v|{POWER_UP} 0 1|"),
+        &format!("v|{POWER_UP} 1 1|"),
     ];
     for vector in refused {
         assert!(line(vector).is_err(), "{vector}");

@@ -81,13 +81,14 @@ impl Device<'_> {
         let transfer = self.machine.transfer;
         self.machine.selected = false;
         self.machine.transfer = Transfer::NONE;
-        let wp_high = self.machine.wp_high;
+        let (wp_high, stepping) = (self.machine.wp_high, self.array.stepping);
         let registers = &mut self.machine.registers;
         match (transfer.instruction, transfer.count) {
             (Some(Instruction::WriteEnable), 1) => registers.flags |= WRITE_ENABLED,
             (Some(Instruction::WriteDisable), 1) => registers.flags &= !WRITE_ENABLED,
             (Some(Instruction::SetFeature), 3) => {
-                registers.write(transfer.bytes[0], transfer.bytes[1], wp_high);
+                let [address, value, _] = transfer.bytes;
+                registers.write(address, value, wp_high, stepping);
             }
             (Some(Instruction::PageRead), 4) => self.machine.begin(Job::Read(transfer.row())),
             (Some(Instruction::Program), 4) => self.program(transfer.row()),

@@ -1,7 +1,7 @@
 //! An independent model, written from the papers and the project's decisions alone: the device as
-//! document 01 has it, changed by document 02's items 2 (a reset takes time) and 6 (a cache read goes
-//! round at the page's end), and beside the device document 02's parameter page, keeper of the bus
-//! and card.
+//! document 01 has it, changed by document 02's items 2 (a reset takes time), 6 (a cache read goes
+//! round at the page's end) and 7 (the second stepping), and beside the device document 02's parameter
+//! page, keeper of the bus and card.
 //!
 //! It shares no code and no type with the proved library. The tests compare the two on random
 //! contents of all their inputs, sound and not, and the benchmark takes this model as what a good
@@ -15,7 +15,7 @@
 //!
 //! | module | subject |
 //! |---|---|
-//! | `part` | a part's geometry, when it is sound, and which blocks are protected |
+//! | `part` | a part's geometry and stepping, when it is sound, and which blocks are protected |
 //! | `log` | the records of a log, read and written |
 //! | `refusal` | the numbers of refusal |
 //! | `registers` | A0h to D0h: masks, bits, reading and writing |
@@ -49,7 +49,7 @@ pub use calls::{blank, operation_length, peek, shifts, transfer, units_left, wor
 pub use keeper::{Bus, Keeper, Queue};
 pub use log::{next, write, Record};
 pub use orderly::judge;
-pub use part::Part;
+pub use part::{Part, Stepping};
 pub use refusal::Refusal;
 pub use run::{run, Answer, Memory};
 pub use state::State;

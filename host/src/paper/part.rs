@@ -1,8 +1,17 @@
-//! Parts: "The article", and of "Registers" the rule of protection.
+//! Parts: "The article", and of "Registers" the rule of protection; document 02, item 7: the stepping,
+//! and when protected and open blocks change places.
 
-use super::registers::A0_INVERTED;
+use super::registers::{A0_COMPLEMENT, A0_INVERTED};
 
-/// A part, as given: D and S bytes a page, K pages a block, N blocks and the two identity bytes.
+/// The two steppings. A0h has one bit more on the second, CMP.
+#[derive(Clone, Copy, Debug, PartialEq, Eq)]
+pub enum Stepping {
+    First,
+    Second,
+}
+
+/// A part, as given: D and S bytes a page, K pages a block, N blocks, the two identity bytes and the
+/// stepping.
 #[derive(Clone, Copy, Debug, PartialEq, Eq)]
 pub struct Part {
     pub data: u32,
@@ -10,6 +19,7 @@ pub struct Part {
     pub pages: u32,
     pub blocks: u32,
     pub identity: [u8; 2],
+    pub stepping: Stepping,
 }
 
 impl Part {
@@ -19,6 +29,7 @@ impl Part {
         pages: 64,
         blocks: 512,
         identity: [0xA1, 0xD5],
+        stepping: Stepping::First,
     };
 
     pub const BENCH: Part = Part {
@@ -27,6 +38,7 @@ impl Part {
         pages: 4,
         blocks: 8,
         identity: [0x5A, 0x01],
+        stepping: Stepping::First,
     };
 
     /// Whether the geometry is sound.
@@ -62,6 +74,7 @@ impl Part {
             pages: self.pages as usize,
             blocks: self.blocks as usize,
             identity: self.identity,
+            stepping: self.stepping,
         })
     }
 }
@@ -73,6 +86,7 @@ pub(super) struct Array {
     pub pages: usize,
     pub blocks: usize,
     pub identity: [u8; 2],
+    pub stepping: Stepping,
 }
 
 impl Array {
@@ -97,18 +111,29 @@ impl Array {
         usize::from(row) / self.pages
     }
 
-    /// Whether register A0h protects the block of a row.
+    /// Whether register A0h protects the block of a row of the array.
     pub fn protects(&self, a0: u8, row: u16) -> bool {
-        let number = a0 >> 3 & 7;
-        if number == 0 {
-            return false;
-        }
-        let protected = self.blocks >> (7 - number);
         let block = self.block_of(row);
-        if a0 & A0_INVERTED != 0 {
-            block < protected
-        } else {
-            block >= self.blocks - protected
+        match a0 >> 3 & 7 {
+            0 => false,
+            7 => true,
+            number => self.counts(number, a0 & A0_INVERTED != 0, block) != self.complements(a0),
         }
+    }
+
+    /// Whether a block is among those that a BP number counts off, from the highest down or, inverted,
+    /// from the lowest up.
+    fn counts(&self, number: u8, inverted: bool, block: usize) -> bool {
+        let counted = self.blocks >> (7 - number);
+        if inverted {
+            block < counted
+        } else {
+            block >= self.blocks - counted
+        }
+    }
+
+    /// Whether protected and open blocks change places: CMP is 1, on a part that has it.
+    fn complements(&self, a0: u8) -> bool {
+        self.stepping == Stepping::Second && a0 & A0_COMPLEMENT != 0
     }
 }

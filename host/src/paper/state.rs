@@ -81,7 +81,7 @@ impl Machine {
     /// The machine of a state; none if it is not sound.
     pub fn new(state: &State, part: &Part) -> Option<Machine> {
         let machine = Machine {
-            registers: Registers::of(state)?,
+            registers: Registers::of(state, part.stepping)?,
             wp_high: flag(state.wp)?,
             selected: flag(state.selected)?,
             transfer: Transfer::of(state)?,

@@ -1,7 +1,7 @@
 //! Random parts, states, memories and logs, sound and not.
 
 use sleetanvil::case::{Case, Fill};
-use sleetanvil::{paper, Geometry, State};
+use sleetanvil::{paper, Geometry, State, Stepping};
 
 use super::rng::Rng;
 
@@ -89,10 +89,12 @@ impl Generator {
         }
     }
 
+    /// A sound part, half of them of the second stepping.
     pub fn sound_geometry(&mut self) -> Geometry {
         let rng = &mut self.rng;
+        let stepping = rng.pick(&[Stepping::First, Stepping::Second]);
         let (data, spare, pages, blocks) = match rng.below(20) {
-            0 | 1 => return Geometry::bench(),
+            0 | 1 => return Geometry::bench().with_stepping(stepping),
             2 => (1, 0, 1, 1),
             3 => {
                 let page = rng.within(250, 4096);
@@ -109,6 +111,7 @@ impl Generator {
             5 => (rng.within(1, 3), 0, 256, rng.within(1, 2)),
             6 => (1, rng.below(2), 1, rng.within(200, 600)),
             7 => (rng.within(100, 300), rng.below(40), 2, rng.within(1, 3)),
+            8 => (rng.within(1, 3), 0, rng.within(1, 2), rng.within(18, 140)),
             _ => (
                 rng.within(1, 20),
                 rng.below(6),
@@ -121,6 +124,7 @@ impl Generator {
             spare: spare as u32,
             pages: pages as u32,
             blocks: blocks as u32,
+            stepping,
             ..Geometry::bench()
         };
         geometry.identity = [self.rng.byte(), self.rng.byte()];
@@ -222,7 +226,7 @@ impl Generator {
         let rng = &mut self.rng;
         let mut state = State {
             a0: if rng.percent(50) {
-                rng.byte() & 0xBC
+                rng.byte() & a0_mask(geometry)
             } else {
                 0
             },
@@ -277,8 +281,8 @@ impl Generator {
     fn break_clause(&mut self, geometry: &Geometry, state: &mut State) {
         let rng = &mut self.rng;
         let (page, pages, rows) = sizes(geometry);
-        match rng.below(20) {
-            0 => state.a0 |= rng.pick(&[0x40, 0x02, 0x01]),
+        match rng.below(22) {
+            0 | 20 | 21 => state.a0 |= rng.pick(&[0x40, 0x02, 0x01]) & !a0_mask(geometry),
             1 => state.b0 |= rng.byte() & 0xEE,
             2 => state.c0 |= 0x10 << rng.below(4),
             3 => state.d0 |= rng.byte() & 0x9F,
@@ -313,6 +317,14 @@ impl Generator {
                 state.instruction = rng.pick(&CODES).into();
             }
         }
+    }
+}
+
+/// The bits of A0h that a part of its stepping has.
+fn a0_mask(geometry: &Geometry) -> u8 {
+    match geometry.stepping {
+        Stepping::First => 0xBC,
+        Stepping::Second => 0xBE,
     }
 }
 
@@ -421,18 +433,43 @@ pub fn cache_read(rng: &mut Rng, geometry: &Geometry) -> Vec<u8> {
 }
 
 /// The three bytes of a row: mostly inside the array, and often one of a few, so that pages meet
-/// again.
+/// again; now and then beside a border of protected blocks.
 fn row_bytes(rng: &mut Rng, geometry: &Geometry) -> [u8; 3] {
     let (_, _, rows) = sizes(geometry);
     let row = match rng.below(10) {
         0..=2 => 0,
         3 | 4 => rows - 1,
-        5..=7 => rng.below(rows),
+        5 | 6 => rng.below(rows),
+        7 => {
+            let a0 = rng.byte();
+            beside_the_border(rng, geometry, a0)
+        }
         8 => rows + rng.below(3),
         _ => usize::from(rng.word()),
     };
     let [high, low] = (row as u16).to_be_bytes();
     [if rng.percent(80) { 0 } else { rng.byte() }, high, low]
+}
+
+/// A row at either side of the border between the blocks that A0h protects and the others; with a BP
+/// number of 0, of the two halves.
+fn beside_the_border(rng: &mut Rng, geometry: &Geometry, a0: u8) -> usize {
+    let (_, pages, rows) = sizes(geometry);
+    let divided = match a0 >> 3 & 7 {
+        0 => 1,
+        number => 7 - number,
+    };
+    let counted = ((rows / pages) >> divided) * pages;
+    let border = match a0 & 0x04 {
+        0 => rows - counted,
+        _ => counted,
+    };
+    let row = if rng.percent(50) {
+        border
+    } else {
+        border.saturating_sub(1)
+    };
+    row.min(rows - 1)
 }
 
 /// Logs.
@@ -514,7 +551,7 @@ struct Script<'a> {
 
 impl Script<'_> {
     fn step(&mut self) {
-        match self.rng.below(20) {
+        match self.rng.below(22) {
             0..=3 => self.any_transfer(),
             4..=6 => self.program(),
             7 | 8 => self.erase(),
@@ -526,6 +563,7 @@ impl Script<'_> {
             14 | 15 => self.work(),
             16 => self.aside(),
             17 => self.cut(),
+            18 | 19 => self.protect_and_try(),
             _ => self.finish(),
         }
     }
@@ -604,9 +642,34 @@ impl Script<'_> {
         self.transfer(&[0x0F, 0xC0, 0x00]);
     }
 
+    /// A0h is written, mostly so that blocks are open.
     fn unlock(&mut self) {
-        let value = self.rng.pick(&[0x00, 0x00, 0x80, 0x24, 0x08, 0xFF]);
+        let value = match self.rng.below(3) {
+            0 => self.rng.byte() & self.rng.pick(&[0x3E, 0x3E, 0xFF]),
+            _ => self.rng.pick(&[0x00, 0x00, 0x80, 0x24, 0x08, 0xFF]),
+        };
         self.transfer(&[0x1F, 0xA0, value]);
+    }
+
+    /// Some blocks are protected, and one is erased or programmed that is mostly beside their border.
+    fn protect_and_try(&mut self) {
+        let a0 = self.rng.byte() & self.rng.pick(&[0x3E, 0x3E, 0x3E, 0xFF]);
+        self.transfer(&[0x1F, 0xA0, a0]);
+        for _ in 0..self.rng.within(1, 2) {
+            self.transfer(&[0x06]);
+            let code = self.rng.pick(&[0x10, 0xD8]);
+            if self.rng.percent(70) {
+                let row = beside_the_border(self.rng, self.geometry, a0);
+                let [high, low] = (row as u16).to_be_bytes();
+                self.transfer(&[code, 0x00, high, low]);
+            } else {
+                self.with_row(code);
+            }
+            self.finish();
+        }
+        if self.rng.percent(30) {
+            self.transfer(&[0x0F, 0xA0, 0x00]);
+        }
     }
 
     fn load(&mut self) {

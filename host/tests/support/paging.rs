@@ -4,7 +4,7 @@
 use std::fmt;
 use std::hint::black_box;
 
-use sleetanvil::paper::{page, Part};
+use sleetanvil::paper::{page, Part, Stepping};
 use sleetanvil::raw::{self, RawSizes};
 use sleetanvil::Geometry;
 
@@ -144,12 +144,13 @@ fn shrink(mut case: Case, differ: impl Fn(&Case) -> bool) -> Case {
             less /= 2;
         }
     }
-    let usual: [fn(&mut Geometry); 5] = [
+    let usual: [fn(&mut Geometry); 6] = [
         |part| part.data = Part::FM25S005BI3.data,
         |part| part.spare = Part::FM25S005BI3.spare,
         |part| part.pages = Part::FM25S005BI3.pages,
         |part| part.blocks = Part::FM25S005BI3.blocks,
         |part| part.identity = Part::FM25S005BI3.identity,
+        |part| part.stepping = Part::FM25S005BI3.stepping.into(),
     ];
     for set in usual {
         attempt(&mut case, &|case| {
@@ -367,6 +368,7 @@ impl Generator {
             pages: pages as u32,
             blocks: blocks as u32,
             identity: [rng.byte(), rng.byte()],
+            stepping: rng.pick(&[Stepping::First, Stepping::Second]),
         }
     }
 
