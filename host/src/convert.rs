@@ -2,7 +2,7 @@
 //! compares the two.
 
 use crate::raw::{RawKeeper, RawQueue};
-use crate::{paper, Answer, Geometry, Refusal, State};
+use crate::{paper, Answer, Geometry, Refusal, State, Stepping};
 
 impl From<Geometry> for paper::Part {
     fn from(geometry: Geometry) -> Self {
@@ -24,6 +24,7 @@ impl From<paper::Part> for Geometry {
             pages: part.pages,
             blocks: part.blocks,
             identity: part.identity,
+            stepping: Stepping::First,
         }
     }
 }

@@ -50,7 +50,7 @@ pub mod vectors;
 
 pub use card::Card;
 pub use device::Device;
-pub use geometry::Geometry;
+pub use geometry::{Geometry, Stepping};
 pub use keeper::{Grant, Keeper};
 pub use lent::Answer;
 pub use log::{Log, Record, Records};
