@@ -177,7 +177,8 @@ pub const TEXT: usize = 48;
 const _: () = {
     assert!(size_of::<Geometry>() == 20 && align_of::<Geometry>() == 4);
     assert!(offset_of!(Geometry, identity) == 16 && offset_of!(Geometry, stepping) == 18);
-    assert!(size_of::<Stepping>() == 1 && Stepping::First as u8 == 0 && Stepping::Second as u8 == 1);
+    assert!(size_of::<Stepping>() == 1);
+    assert!(Stepping::First as u8 == 0 && Stepping::Second as u8 == 1);
     assert!(size_of::<RawRecord>() == 4 && align_of::<RawRecord>() == 2);
     assert!(size_of::<RawPeeked>() == 2 && align_of::<RawPeeked>() == 1);
     assert!(size_of::<RawQueue>() == 10 && align_of::<RawQueue>() == 1);
