@@ -92,7 +92,8 @@ enum { SLEET_A0 = 0xA0, SLEET_B0 = 0xB0, SLEET_C0 = 0xC0, SLEET_D0 = 0xD0 };
  *  - b 7: all N.
  * With b 0 and 7 neither INV nor CMP changes anything. Only a part of the second stepping has CMP. On the first stepping A0h is written
  * through the mask BCh and bit 1 stays 0; on the second the mask is BEh. So FFh written reads back as BCh or as BEh. At power-up and after
- * a power loss A0h is 38h on both, without CMP; a reset leaves A0h as it is. A write of A0h does not touch an operation that has begun.
+ * a power loss A0h is 38h on both, without CMP; a reset leaves A0h as it is. A program or an erase asks for protection as it is to begin,
+ * and not again while it is in progress.
  */
 enum {
     SLEET_A0_BRWD = 0x80,   /* with WP# low, A0h cannot be written */
