@@ -170,7 +170,7 @@ enum { SLEET_IDLE = 0, SLEET_READ = 1, SLEET_PROGRAM = 2, SLEET_ERASE = 3, SLEET
 
 /*
  * A state that came back from a call is sound. One made by hand is sound, on a sound part, if
- *  - a0 has no bit outside BCh, or on the second stepping none outside BEh; b0 and d0 have none outside 11h and 60h, c0 none of bits 7 to 4;
+ *  - a0 has no bit outside BCh, on the second stepping none outside BEh; b0 and d0 have none outside 11h and 60h, c0 none of bits 7 to 4;
  *  - bit 0 of c0 (OIP) is 1 exactly while `job` is not SLEET_IDLE;
  *  - `count` is at most 5, `column` at most 4096, `wp` and `selected` are 0 or 1;
  *  - `instruction` is SLEET_IGNORED or one of the twelve codes named below;
