@@ -56,7 +56,7 @@ options of replay; a value may also be given as --part=NAME:
 
 options of page; boot code sizes a part from this page:
   --part NAME     the part whose page is made: bench or fm25s005bi3; bench if
-                  not given
+                  not given. The page is the same for both steppings
   -o FILE         where to put the three copies of the page, 768 bytes; - is
   --out FILE      standard output
   --read FILE     the file to read three copies from; - is standard input. For
