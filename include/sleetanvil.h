@@ -31,7 +31,7 @@ extern "C" {
 
 /* ---- version ---- */
 
-#define SLEET_VERSION 2 /* of this header; it rises with every change of a struct or of a function's arguments */
+#define SLEET_VERSION 3 /* of this header; it rises with every change of a struct or of a function's arguments */
 
 /* The version of the header that the library was made with: where it is not SLEET_VERSION, header and library do not go together. */
 uint32_t sleet_version(void);
@@ -84,12 +84,22 @@ enum {
 /* Addresses of the registers, for Get and Set Feature: protection, feature, status, drive strength. */
 enum { SLEET_A0 = 0xA0, SLEET_B0 = 0xB0, SLEET_C0 = 0xC0, SLEET_D0 = 0xD0 };
 
-/* Bits of the registers. With b the BP number, A0h protects no block for b 0, and otherwise blocks / 2^(7-b) of them, rounded down: the
-   highest numbered, or the lowest with INV. */
+/*
+ * Bits of the registers. Which blocks A0h protects on a part of N blocks, with b the BP number:
+ *  - b 0: none.
+ *  - b 1 to 6: with q = N / 2^(7-b), rounded down, the q highest numbered, or with INV the q lowest. With CMP exactly the other blocks: the
+ *    N - q lowest, or with INV the N - q highest. On a part of few blocks q may be 0: then none is protected, and with CMP all are.
+ *  - b 7: all N.
+ * With b 0 and 7 neither INV nor CMP changes anything. Only a part of the second stepping has CMP. On the first stepping A0h is written
+ * through the mask BCh and bit 1 stays 0; on the second the mask is BEh. So FFh written reads back as BCh or as BEh. At power-up and after
+ * a power loss A0h is 38h on both, without CMP; a reset leaves A0h as it is. A program or an erase asks for protection as it is to begin,
+ * and not again while it is in progress.
+ */
 enum {
     SLEET_A0_BRWD = 0x80,   /* with WP# low, A0h cannot be written */
     SLEET_A0_BP = 0x38,     /* the BP number: how many blocks are protected */
     SLEET_A0_INV = 0x04,    /* the lowest blocks, not the highest */
+    SLEET_A0_CMP = 0x02,    /* second stepping: the other blocks are the protected ones, for a BP number from 1 to 6 */
     SLEET_B0_ECC_E = 0x10,  /* only stored */
     SLEET_B0_QE = 0x01,     /* only stored */
     SLEET_C0_OIP = 0x01,    /* an operation is in progress */
@@ -112,17 +122,28 @@ enum {
 
 /* ---- the part ---- */
 
-/* Sound: data at least 1, data + spare at most 4096, pages from 1 to 256, blocks at least 1, pages * blocks at most 65536. */
+enum { SLEET_FIRST = 0, SLEET_SECOND = 1 }; /* `stepping` */
+
+/*
+ * Sound: data at least 1, data + spare at most 4096, pages from 1 to 256, blocks at least 1, pages * blocks at most 65536, stepping 0 or 1.
+ * A stepping above 1 stands for no part: every function that refuses a part refuses it with SLEET_BAD_PART, before it looks at anything
+ * else. The second stepping has CMP in A0h; in all else the two are the same.
+ *
+ * Version 2 of this header had no `stepping`: its byte lay behind the fields and may hold anything. A program of then is compiled anew, and
+ * sets it where it fills a part field by field: SLEET_FIRST is the part as it was. A part from sleet_bench() or sleet_fm25s005bi3(), one
+ * set to 0 by memset or = {0}, and one by braces that end with id1 is of the first stepping without a change.
+ */
 typedef struct sleet_geometry {
-    uint32_t data;   /* D, data bytes per page */
-    uint32_t spare;  /* S, spare bytes per page */
-    uint32_t pages;  /* K, pages per block */
-    uint32_t blocks; /* N, blocks */
-    uint8_t id0;     /* the two identity bytes */
+    uint32_t data;    /* D, data bytes per page */
+    uint32_t spare;   /* S, spare bytes per page */
+    uint32_t pages;   /* K, pages per block */
+    uint32_t blocks;  /* N, blocks */
+    uint8_t id0;      /* the two identity bytes */
     uint8_t id1;
+    uint8_t stepping; /* SLEET_FIRST or SLEET_SECOND */
 } sleet_geometry;
 
-/* The two named parts. */
+/* The two named parts, of the first stepping; for the second set `stepping` to SLEET_SECOND. */
 sleet_geometry sleet_fm25s005bi3(void);
 sleet_geometry sleet_bench(void);
 
@@ -149,7 +170,7 @@ enum { SLEET_IDLE = 0, SLEET_READ = 1, SLEET_PROGRAM = 2, SLEET_ERASE = 3, SLEET
 
 /*
  * A state that came back from a call is sound. One made by hand is sound, on a sound part, if
- *  - a0, b0 and d0 have no bit outside BCh, 11h and 60h, and c0 none of bits 7 to 4;
+ *  - a0 has no bit outside BCh, on the second stepping none outside BEh; b0 and d0 have none outside 11h and 60h, c0 none of bits 7 to 4;
  *  - bit 0 of c0 (OIP) is 1 exactly while `job` is not SLEET_IDLE;
  *  - `count` is at most 5, `column` at most 4096, `wp` and `selected` are 0 or 1;
  *  - `instruction` is SLEET_IGNORED or one of the twelve codes named below;
@@ -183,7 +204,10 @@ typedef struct sleet_state {
 /* The power-up state: WP# high, the read of row 0 just begun. */
 sleet_state sleet_power_up(void);
 
-/* Whether a state is sound on a part. On a part that is not sound it is judged by the part's numbers as they are. */
+/*
+ * Whether a state is sound on a part. On a part that is not sound it is judged by the part's numbers as they are; one whose stepping is
+ * above 1 counts as a part of the first stepping with no bytes, pages and blocks.
+ */
 bool sleet_state_sound(sleet_geometry part, sleet_state state);
 
 /*
@@ -372,8 +396,9 @@ enum { SLEET_PAGE_LENGTH = 256, SLEET_PAGE_COPIES = 3 }; /* bytes of a copy, and
 
 /*
  * Make the page of a part: the datasheet's own, with the D, S, K and N of the part in it, and its check. Manufacturer, model and the
- * manufacturer's identity byte are those of the FM25S005BI3 for every part. Bytes 0 to 255 of `memory` are written and no others, whatever
- * its length: for three copies lend memory, memory + 256 and memory + 512 in turn, each with the length from there on.
+ * manufacturer's identity byte are those of the FM25S005BI3 for every part, and the page is the same for both steppings. Bytes 0 to 255 of
+ * `memory` are written and no others, whatever its length: for three copies lend memory, memory + 256 and memory + 512 in turn, each with
+ * the length from there on.
  *
  * Returns 0; or, the first that holds: 1 for a part that is not sound, 11 for a memory of fewer than 256 bytes. Then not a byte is changed.
  */
@@ -390,8 +415,8 @@ typedef struct sleet_sizes {
 
 /*
  * Read the sizes of a part from the first copy whose signature and check hold, as they stand there. Nothing else of a page is judged, so
- * that the four need not be a sound geometry: put them into a sleet_geometry, with the two bytes that Read ID answers, and ask
- * sleet_geometry_sound before they are used. Bytes from 768 on are not looked at. Nothing is changed.
+ * that the four need not be a sound geometry: put them into a sleet_geometry, with the two bytes that Read ID answers and the stepping,
+ * which no page names, and ask sleet_geometry_sound before they are used. Bytes from 768 on are not looked at. Nothing is changed.
  */
 sleet_sizes sleet_page_read(const uint8_t *memory, size_t length);
 

@@ -16,6 +16,8 @@
  * was done; `shift` returns the byte on DO, FFh where it is refused; the rest of the answer stands in the device until the next call on the
  * bus (`refusal`, `records`, `used`, `written`, `orderly`).
  *
+ * The second stepping. Take a part whose `stepping` is SLEET_SECOND; `part(id0, id1, SLEET_SECOND)` of `sizes` makes one from a page.
+ *
  * A part that is not sound. Making a device of it does not throw: the device is there, without memory, and every call on it is refused with
  * 1. In the same way memory of a wrong length is refused with 2 to 4 and an unsound state with 5. `refusal` says so right after the device
  * was made, `check` and the test `if (flash)` at any time. On a device that `check` finds good, select, shift, deselect, work and power are
@@ -417,10 +419,10 @@ struct sizes {
         return refusal == SLEET_DONE;
     }
 
-    /* The part of these sizes, sound or not, with the two bytes that Read ID answers. */
-    sleet_geometry part(uint8_t id0, uint8_t id1) const noexcept
+    /* The part of these sizes, sound or not, with the two bytes that Read ID answers and a stepping, which no page names. */
+    sleet_geometry part(uint8_t id0, uint8_t id1, uint8_t stepping = SLEET_FIRST) const noexcept
     {
-        return {data, spare, pages, blocks, id0, id1};
+        return {data, spare, pages, blocks, id0, id1, stepping};
     }
 };
 

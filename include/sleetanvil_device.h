@@ -7,6 +7,11 @@
  *     sleet_device_init(&flash, sleet_bench(), cells, sizeof cells, cache, sizeof cache, counts, sizeof counts);
  *     sleet_device_transfer(&flash, di, sizeof di, out, sizeof out); // 0, and out is FFh FFh 5Ah 01h
  *
+ * The part names its stepping. For a device of the second one take a part whose `stepping` is SLEET_SECOND:
+ *
+ *     sleet_geometry part = sleet_bench();
+ *     part.stepping = SLEET_SECOND;
+ *
  * Who owns what. The handle is the caller's, and so are cells, cache register and page counts: sleet_device_init and sleet_device_open take
  * them on loan, and they have to stay where they are as long as the handle is used. Nothing is allocated, and nothing has to be closed.
  * `di`, `log` and `out` are lent for the length of a call. A copied handle has its own state but the same memory: for a second device, copy

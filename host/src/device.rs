@@ -69,11 +69,7 @@ impl Device {
             cache,
             counts,
         };
-        assert_eq!(
-            ffi::version(),
-            ffi::VERSION,
-            "the archive is of another version than this package: make it again"
-        );
+        ffi::assert_version();
         device.run(&[], &mut []).result()?;
         Ok(device)
     }

@@ -4,10 +4,10 @@
 //! rules: the pointer of a slice is never null, not even of an empty one, a slice has the length
 //! that goes with it, and the mutable slices of one call cannot overlap with any other.
 
-use std::mem::{align_of, size_of};
+use std::mem::{align_of, offset_of, size_of};
 
 use crate::lent::Memory;
-use crate::{Geometry, State};
+use crate::{Geometry, State, Stepping};
 
 /// `sleet_answer`.
 #[repr(C)]
@@ -169,13 +169,16 @@ pub struct RawCardAnswer {
 }
 
 /// `SLEET_VERSION`: that of the header which this file was written for.
-pub const VERSION: u32 = 2;
+pub const VERSION: u32 = 3;
 
 /// `SLEET_TEXT`: room for every text and its NUL.
 pub const TEXT: usize = 48;
 
 const _: () = {
     assert!(size_of::<Geometry>() == 20 && align_of::<Geometry>() == 4);
+    assert!(offset_of!(Geometry, identity) == 16 && offset_of!(Geometry, stepping) == 18);
+    assert!(size_of::<Stepping>() == 1);
+    assert!(Stepping::First as u8 == 0 && Stepping::Second as u8 == 1);
     assert!(size_of::<RawRecord>() == 4 && align_of::<RawRecord>() == 2);
     assert!(size_of::<RawPeeked>() == 2 && align_of::<RawPeeked>() == 1);
     assert!(size_of::<RawQueue>() == 10 && align_of::<RawQueue>() == 1);
@@ -251,15 +254,40 @@ pub fn version() -> u32 {
     unsafe { sleet_version() }
 }
 
+/// The archive is of this package's version.
+///
+/// # Panics
+///
+/// Where it is not.
+pub fn assert_version() {
+    assert_eq!(
+        version(),
+        VERSION,
+        "the archive is of another version than this package: make it again"
+    );
+}
+
 /// `sleet_fm25s005bi3`.
+///
+/// # Panics
+///
+/// Where the archive that was linked is of another version than this package.
 pub fn fm25s005bi3() -> Geometry {
-    // SAFETY: takes nothing, gives a struct of plain numbers.
+    assert_version();
+    // SAFETY: takes nothing, gives a struct of plain numbers; in this version the stepping is the
+    // first.
     unsafe { sleet_fm25s005bi3() }
 }
 
 /// `sleet_bench`.
+///
+/// # Panics
+///
+/// Where the archive that was linked is of another version than this package.
 pub fn bench() -> Geometry {
-    // SAFETY: takes nothing, gives a struct of plain numbers.
+    assert_version();
+    // SAFETY: takes nothing, gives a struct of plain numbers; in this version the stepping is the
+    // first.
     unsafe { sleet_bench() }
 }
 

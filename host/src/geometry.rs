@@ -16,10 +16,11 @@ pub enum Stepping {
     Second = 1,
 }
 
-/// A part: the bytes of a page, the pages of a block, the blocks, and the two identity bytes.
+/// A part: the bytes of a page, the pages of a block, the blocks, the two identity bytes, and the
+/// stepping.
 ///
 /// Sound: `data` at least 1, `data + spare` at most 4,096, `pages` from 1 to 256, `blocks` at least
-/// 1, `pages * blocks` at most 65,536. Any other is refused with
+/// 1, `pages * blocks` at most 65,536, of either stepping. Any other is refused with
 /// [`Refusal::BadPart`](crate::Refusal::BadPart).
 #[repr(C)]
 #[derive(Clone, Copy, Debug, PartialEq, Eq, Hash)]
@@ -39,12 +40,21 @@ pub struct Geometry {
 }
 
 impl Geometry {
-    /// The FM25S005BI3: 2,048 + 128 bytes a page, 64 pages a block, 512 blocks.
+    /// The FM25S005BI3: 2,048 + 128 bytes a page, 64 pages a block, 512 blocks; of the first
+    /// stepping.
+    ///
+    /// # Panics
+    ///
+    /// Where the archive that was linked is of another version than this package.
     pub fn fm25s005bi3() -> Self {
         ffi::fm25s005bi3()
     }
 
-    /// The small bench part: 16 + 4 bytes a page, 4 pages a block, 8 blocks.
+    /// The small bench part: 16 + 4 bytes a page, 4 pages a block, 8 blocks; of the first stepping.
+    ///
+    /// # Panics
+    ///
+    /// Where the archive that was linked is of another version than this package.
     pub fn bench() -> Self {
         ffi::bench()
     }

@@ -53,7 +53,8 @@ pub struct Sizes {
 }
 
 impl Sizes {
-    /// The part of these sizes, with the two bytes that Read ID answers. Ask
+    /// The part of these sizes, with the two bytes that Read ID answers, and of the first stepping:
+    /// a page names none, and [`Geometry::with_stepping`] makes it the second. Ask
     /// [`Geometry::is_sound`] before it is used: a page is only as good as who wrote it.
     pub fn geometry(&self, identity: [u8; 2]) -> Geometry {
         Geometry {
@@ -71,7 +72,7 @@ impl Sizes {
 ///
 /// The first [`LEN`] bytes of the memory are written and no others; lend the rest again for further
 /// copies. Manufacturer, model and the manufacturer's identity byte are those of the FM25S005BI3 for
-/// every part.
+/// every part; a page is the same for both steppings.
 ///
 /// It is [`Refusal::BadPart`] for a part that is not sound, and else [`Refusal::ShortMemory`] for
 /// fewer than [`LEN`] bytes. Then not a byte is changed.

@@ -12,7 +12,9 @@ use crate::{ffi, Geometry};
 pub struct State {
     /// Register A0h: protection. Bits 5 to 3 are the BP number b: for 0 no block is protected,
     /// otherwise `blocks` / 2^(7-b) of them, rounded down, the highest numbered, or the lowest if
-    /// bit 2, INV, is 1. While bit 7, BRWD, is 1 and WP# is low, the register cannot be written.
+    /// bit 2, INV, is 1. If bit 1, CMP, is 1, and b is from 1 to 6, the others are the protected
+    /// ones; a part of the first stepping has no CMP, and there a state in which the bit is 1 is not
+    /// sound. While bit 7, BRWD, is 1 and WP# is low, the register cannot be written.
     pub a0: u8,
     /// Register B0h: ECC_E and QE.
     pub b0: u8,

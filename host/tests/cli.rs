@@ -12,7 +12,7 @@ use std::os::unix::net::UnixListener;
 use std::path::{Path, PathBuf};
 use std::process::{Child, Command, Output, Stdio};
 
-use sleetanvil::{page, Device, Geometry, Log, Record, Records, Refusal};
+use sleetanvil::{page, Device, Geometry, Log, Record, Records, Refusal, Stepping};
 use support::generate::Generator;
 
 /// The log of document 01.
@@ -137,6 +137,7 @@ fn help_and_version() {
         let help = succeeds(&sleetanvil(args));
         for word in [
             "usage:",
+            "--stepping",
             "--image",
             "--power-up",
             "--save",
@@ -171,6 +172,16 @@ fn a_bad_command_line() {
         (&["replay", "--fast", "a"], "no such option: --fast"),
         (&["replay", "--part", "other", "a"], "no such part: other"),
         (&["replay", "--part"], "--part needs a value"),
+        (&["replay", "--stepping", "3", "a"], "no such stepping: 3;"),
+        (&["replay", "--stepping=0", "a"], "no such stepping: 0;"),
+        (&["replay", "--stepping=02", "a"], "no such stepping: 02;"),
+        (&["replay", "--stepping=", "a"], "no such stepping: ;"),
+        (
+            &["replay", "--stepping", "second", "a"],
+            "no such stepping: second; there are 1 and 2",
+        ),
+        (&["replay", "--stepping"], "--stepping needs a value"),
+        (&["replay", "--stepping=1", "--stepping=2", "a"], "twice"),
         (&["replay", "--bytes", "many", "a"], "not a number: many"),
         (&["replay", "--save", "a", "--save", "b", "c"], "twice"),
         (&["replay", "--save", "a", "--save=b", "c"], "twice"),
@@ -201,6 +212,7 @@ fn a_bad_command_line() {
         (&["page", "--read", "a", "--read", "b"], "twice"),
         (&["page", "--part", "other", "-o", "a"], "no such part"),
         (&["page", "--trace", "-o", "a"], "no such option: --trace"),
+        (&["page", "--stepping", "2", "-o", "a"], "no such option"),
         (&["page", "-o=a"], "no such option: -o=a"),
         (&["page", "--", "-o", "a"], "no such option: --"),
         (&["card"], "no log"),
@@ -211,6 +223,7 @@ fn a_bad_command_line() {
         (&["card", "--image=a", "--image", "b", "c"], "twice"),
         (&["card", "--trace=yes", "a"], "--trace takes no value"),
         (&["card", "--part", "bench", "a"], "no such option: --part"),
+        (&["card", "--stepping", "1", "a"], "no such option"),
         (&["card", "--judge", "a"], "no such option: --judge"),
         (&["card", "--out", "a", "b"], "no such option: --out"),
         (&["card", "-x", "a"], "no such option: -x"),
@@ -808,6 +821,346 @@ fn a_trace_of_protection() {
     assert_eq!(texts(&trace)[1..], lines);
 }
 
+/// CMP, bit 1 of A0h, at each BP number and on both sides: the first stepping does not have it, on
+/// the second the other blocks are the protected ones.
+#[test]
+fn a_trace_of_protection_with_cmp() {
+    let expected = [
+        (0x02, "no block protected", "no block protected"),
+        (
+            0x0A,
+            "blocks 504 to 511 protected",
+            "blocks 0 to 503 protected",
+        ),
+        (
+            0x12,
+            "blocks 496 to 511 protected",
+            "blocks 0 to 495 protected",
+        ),
+        (
+            0x1A,
+            "blocks 480 to 511 protected",
+            "blocks 0 to 479 protected",
+        ),
+        (
+            0x22,
+            "blocks 448 to 511 protected",
+            "blocks 0 to 447 protected",
+        ),
+        (
+            0x2A,
+            "blocks 384 to 511 protected",
+            "blocks 0 to 383 protected",
+        ),
+        (
+            0x32,
+            "blocks 256 to 511 protected",
+            "blocks 0 to 255 protected",
+        ),
+        (0x3A, "all 512 blocks protected", "all 512 blocks protected"),
+        (0x06, "no block protected", "no block protected"),
+        (0x0E, "blocks 0 to 7 protected", "blocks 8 to 511 protected"),
+        (
+            0x16,
+            "blocks 0 to 15 protected",
+            "blocks 16 to 511 protected",
+        ),
+        (
+            0x1E,
+            "blocks 0 to 31 protected",
+            "blocks 32 to 511 protected",
+        ),
+        (
+            0x26,
+            "blocks 0 to 63 protected",
+            "blocks 64 to 511 protected",
+        ),
+        (
+            0x2E,
+            "blocks 0 to 127 protected",
+            "blocks 128 to 511 protected",
+        ),
+        (
+            0x36,
+            "blocks 0 to 255 protected",
+            "blocks 256 to 511 protected",
+        ),
+        (0x3E, "all 512 blocks protected", "all 512 blocks protected"),
+        (0xFF, "all 512 blocks protected", "all 512 blocks protected"),
+        (0x00, "no block protected", "no block protected"),
+    ];
+    let mut log = Log::new();
+    log.push(Record::Work(u16::MAX));
+    for (a0, ..) in expected {
+        log.transfer(&[0x1F, 0xA0, a0]);
+        log.transfer(&[0x0F, 0xA0, 0x00]);
+    }
+    for (stepping, mask) in [("1", 0xBC), ("2", 0xBE)] {
+        let args = ["replay", "--part=fm25s005bi3", "--stepping", stepping];
+        let args = [&args[..], &["--trace", "-"]].concat();
+        let trace = succeeds(&with_input(&args, log.as_bytes()));
+        let mut before = 0x38;
+        let lines = expected.map(|(a0, first, second)| {
+            let blocks = if stepping == "1" { first } else { second };
+            let after = a0 & mask;
+            let set = format!("1Fh Set Feature A0h = {a0:02X}h");
+            let set = format!("{set}: {before:02X}h -> {after:02X}h, {blocks}");
+            before = after;
+            [
+                set,
+                format!("0Fh Get Feature A0h -> {after:02X}h ({blocks})"),
+            ]
+        });
+        assert_eq!(texts(&trace)[1..], lines.concat());
+    }
+}
+
+/// With CMP a block fails that was open, and the other way round; a power loss clears CMP, and with
+/// BRWD and WP# low it stays. A verdict goes by the stepping too.
+#[test]
+fn a_trace_on_both_steppings() {
+    let mut log = Log::new();
+    log.push(Record::Work(20));
+    log.transfer(&[0x1F, 0xA0, 0xA2]);
+    log.push(Record::Level(false));
+    log.transfer(&[0x1F, 0xA0, 0x00]);
+    log.transfer(&[0x06]);
+    log.transfer(&[0xD8, 0x00, 0x00, 0x1C]);
+    log.push(Record::Work(80));
+    log.transfer(&[0x06]);
+    log.transfer(&[0x10, 0x00, 0x00, 0x1B]);
+    log.push(Record::Work(20));
+    log.push(Record::Power);
+    log.push(Record::Work(20));
+    let powered = "power lost and back: read of row 0 begins; set back to A0h 38h (all 8 blocks \
+        protected), B0h 10h, D0h 40h and a cache register of FFh; WP# stays low; status ";
+    let held = "1Fh Set Feature A0h = 00h: nothing happens, BRWD is 1 and WP# is low";
+    let first = [
+        "1Fh Set Feature A0h = A2h: 38h -> A0h, block 7 protected",
+        "WP# low",
+        held,
+        "06h Write Enable; status 00h -> 02h (WEL)",
+        "D8h Block Erase row 28 (block 7): E_FAIL, block 7 is protected; \
+         status 02h -> 04h (E_FAIL)",
+        "work of 80 units: the array is idle, nothing happens",
+        "06h Write Enable; status 04h -> 06h (WEL, E_FAIL)",
+        "10h Program Execute row 27: program of row 27 begins, 20 units; \
+         status 06h -> 01h (busy)",
+        "work of 20 units: program of row 27 ends; status 01h -> 00h (idle)",
+        &format!("{powered}00h -> 01h (busy)"),
+        "work of 20 units: read of row 0 ends; status 01h -> 00h (idle)",
+    ];
+    let second = [
+        "1Fh Set Feature A0h = A2h: 38h -> A2h, blocks 0 to 6 protected",
+        "WP# low",
+        held,
+        "06h Write Enable; status 00h -> 02h (WEL)",
+        "D8h Block Erase row 28 (block 7): erase of block 7 begins, 80 units; \
+         status 02h -> 01h (busy)",
+        "work of 80 units: erase of block 7 ends; status 01h -> 00h (idle)",
+        "06h Write Enable; status 00h -> 02h (WEL)",
+        "10h Program Execute row 27: P_FAIL, block 6 is protected; status 02h -> 08h (P_FAIL)",
+        "work of 20 units: the array is idle, nothing happens",
+        &format!("{powered}08h -> 01h (busy)"),
+        "work of 20 units: read of row 0 ends; status 01h -> 00h (idle)",
+    ];
+    for (args, lines) in [
+        (&[][..], &first),
+        (&["--stepping", "1"], &first),
+        (&["--stepping", "2"], &second),
+        (&["--part", "bench", "--stepping=2"], &second),
+    ] {
+        let args = [&["replay", "--trace"], args, &["-"]].concat();
+        let trace = succeeds(&with_input(&args, log.as_bytes()));
+        assert_eq!(texts(&trace)[1..], lines[..], "{args:?}");
+    }
+
+    // b 3 of 8 blocks: none is protected, and with CMP all.
+    let mut log = Log::new();
+    log.push(Record::Work(20));
+    log.transfer(&[0x1F, 0xA0, 0x1A]);
+    log.transfer(&[0x06]);
+    log.transfer(&[0xD8, 0x00, 0x00, 0x00]);
+    log.transfer(&[0x06]);
+    log.push(Record::Work(80));
+    let line = "not orderly: record 16, 06h begun while busy";
+    judged(&["--stepping=1"], log.as_bytes(), 3, line);
+    judged(&["--stepping=2"], log.as_bytes(), 0, "orderly");
+}
+
+/// The trace of a driver that opens the first eight blocks of the second stepping, and its write of
+/// A0h on the first.
+#[test]
+fn a_trace_of_the_papers_on_the_second_stepping() {
+    let mut log = Log::new();
+    log.push(Record::Work(2176));
+    log.transfer(&[0x1F, 0xA0, 0x0E]);
+    log.transfer(&[0x0F, 0xA0, 0x00]);
+    let read_back = log.clone();
+    log.transfer(&[0x06]);
+    log.transfer(&[0x02, 0x00, 0x00, 0xA5]);
+    log.transfer(&[0x10, 0x00, 0x01, 0xFF]);
+    log.push(Record::Work(2176));
+    log.transfer(&[0x06]);
+    log.transfer(&[0x10, 0x00, 0x02, 0x00]);
+    log.transfer(&[0xFF]);
+    log.push(Record::Work(8));
+    log.transfer(&[0x0F, 0xA0, 0x00]);
+    for (stepping, log) in [("2", &log), ("1", &read_back)] {
+        let args = ["--part", "fm25s005bi3", "--stepping", stepping, "-"];
+        let args = [&["replay", "--trace"], &args[..]].concat();
+        is_shown_to_drivers(&succeeds(&with_input(&args, log.as_bytes())));
+    }
+}
+
+/// The image of an idle bench part that was never written to, byte by byte; of version 1 without
+/// state and cache register.
+fn image_by_hand(version: u8, stepping: u8, a0: u8) -> Vec<u8> {
+    let mut bytes = b"SLEETIMG".to_vec();
+    bytes.extend([version, 0, 0, 0]);
+    bytes.extend([16, 0, 0, 0, 4, 0, 0, 0, 4, 0, 0, 0, 8, 0, 0, 0]);
+    bytes.extend([0x5A, 0x01, stepping, 0]);
+    bytes.extend([0xFF; 640]);
+    bytes.extend([0x00; 32]);
+    if version == 2 {
+        // A0h, B0h, C0h, D0h; WP# high; the instruction is 100h.
+        bytes.extend([a0, 0x10, 0x00, 0x40, 1, 0, 0, 0, 0, 0, 0, 0]);
+        bytes.extend([0x00, 0x01, 0, 0, 0, 0, 0, 0, 0, 0, 0, 0]);
+        bytes.extend([0xFF; 20]);
+    }
+    bytes
+}
+
+/// Images without a word about a stepping are of the first, and such an image is what is saved.
+#[test]
+fn an_image_of_the_first_stepping_is_as_before() {
+    let folder = Folder::new("an_image_of_the_first_stepping_is_as_before");
+    let last = folder.file("last");
+    let saved = |args: &[&str], log: &[u8]| {
+        let args = [&["replay", "--save", &last], args, &["-"]].concat();
+        succeeds(&with_input(&args, log));
+        fs::read(&last).expect("the image")
+    };
+    let idle = [0x04, 0x14, 0x00];
+    let new = image_by_hand(2, 0, 0x38);
+    assert_eq!(saved(&[], &idle), new);
+    assert_eq!(saved(&["--stepping", "1"], &idle), new);
+    let bytes = image_by_hand(2, 0, 0xA4);
+    let image = folder.write("image", &bytes);
+    assert_eq!(saved(&["--image", &image], &[]), bytes);
+    assert_eq!(saved(&["--image", &image, "--stepping=1"], &[]), bytes);
+    assert_eq!(saved(&["--image", &image, "--power-up"], &idle), new);
+    let old = folder.write("old", &image_by_hand(1, 0, 0));
+    assert_eq!(saved(&["--image", &old], &idle), new);
+    assert_eq!(saved(&["--image", &old, "--stepping=1"], &idle), new);
+
+    // They have no CMP.
+    let mut log = Log::new();
+    log.push(Record::Work(20));
+    log.transfer(&[0x1F, 0xA0, 0x22]);
+    for image in [&image, &old] {
+        let args = ["--image", image];
+        assert_eq!(saved(&args, log.as_bytes()), image_by_hand(2, 0, 0x20));
+        let trace = [&["replay", "--trace"], &args[..], &["-"]].concat();
+        let trace = succeeds(&with_input(&trace, log.as_bytes()));
+        assert!(trace.contains(" -> 20h, block 7 protected\n"), "{trace}");
+    }
+}
+
+/// A saved image says the stepping that it was run with, and the next replay goes by it.
+#[test]
+fn an_image_names_its_stepping() {
+    let folder = Folder::new("an_image_names_its_stepping");
+    let last = folder.file("last");
+    let saved = |args: &[&str], log: &[u8]| {
+        let args = [&["replay", "--save", &last], args, &["-"]].concat();
+        succeeds(&with_input(&args, log));
+        fs::read(&last).expect("the image")
+    };
+    let idle = [0x04, 0x14, 0x00];
+    let new = image_by_hand(2, 1, 0x38);
+    assert_eq!(saved(&["--stepping", "2"], &idle), new);
+    let bytes = image_by_hand(2, 1, 0xA2);
+    let image = folder.write("image", &bytes);
+    assert_eq!(saved(&["--image", &image], &[]), bytes);
+    assert_eq!(saved(&["--image", &image, "--stepping=2"], &[]), bytes);
+    assert_eq!(saved(&["--image", &image, "--power-up"], &idle), new);
+    let old = folder.write("old", &image_by_hand(1, 1, 0));
+    assert_eq!(saved(&["--image", &old], &idle), new);
+
+    let mut log = Log::new();
+    log.push(Record::Work(20));
+    log.transfer(&[0x1F, 0xA0, 0x26]);
+    for image in [&image, &old] {
+        let args = ["--image", image];
+        assert_eq!(saved(&args, log.as_bytes()), image_by_hand(2, 1, 0x26));
+        let trace = [&["replay", "--trace"], &args[..], &["-"]].concat();
+        let trace = succeeds(&with_input(&trace, log.as_bytes()));
+        assert!(
+            trace.contains(" -> 26h, blocks 1 to 7 protected\n"),
+            "{trace}"
+        );
+    }
+}
+
+/// The same memory on the other stepping, both ways; with CMP there is no way to the first but
+/// power-up.
+#[test]
+fn a_stepping_decides_over_the_image() {
+    let folder = Folder::new("a_stepping_decides_over_the_image");
+    let last = folder.file("last");
+    let replay = |args: &[&str], log: &[u8]| {
+        let args = [&["replay", "--save", &last], args, &["-"]].concat();
+        with_input(&args, log)
+    };
+    let saved = |args: &[&str], log: &[u8]| {
+        succeeds(&replay(args, log));
+        fs::read(&last).expect("the image")
+    };
+    let first = folder.write("first", &image_by_hand(2, 0, 0x20));
+    let second = folder.write("second", &image_by_hand(2, 1, 0x20));
+    let old = folder.write("old", &image_by_hand(1, 0, 0));
+    let set = [1, 2, 0x1F, 2, 0xA0, 2, 0x22, 3];
+    let args = ["--image", &first, "--stepping", "2"];
+    assert_eq!(saved(&args, &[]), image_by_hand(2, 1, 0x20));
+    assert_eq!(saved(&args, &set), image_by_hand(2, 1, 0x22));
+    let args = ["--image", &second, "--stepping", "1"];
+    assert_eq!(saved(&args, &[]), image_by_hand(2, 0, 0x20));
+    assert_eq!(saved(&args, &set), image_by_hand(2, 0, 0x20));
+    let args = ["--image", &old, "--stepping", "2"];
+    let idle = [0x04, 0x14, 0x00];
+    assert_eq!(saved(&args, &idle), image_by_hand(2, 1, 0x38));
+    let up = [&idle[..], &set].concat();
+    assert_eq!(saved(&args, &up), image_by_hand(2, 1, 0x22));
+
+    // A state with CMP: of the second stepping, and one that was put by hand.
+    let bytes = fs::read(&last).expect("the image");
+    for (stepping, given) in [(1, &["--stepping", "1"][..]), (0, &[])] {
+        let image = folder.write("image", &image_by_hand(2, stepping, 0x22));
+        let output = replay(&[&["--image", &image], given].concat(), &set);
+        fails(&output, 1, &format!("{image}: no replay can begin with it"));
+        let hint = "the state is not sound: CMP, bit 1 of A0h, is 1, and the first stepping has \
+            no CMP; give --stepping 2, or --power-up, which clears it\n";
+        fails(&output, 1, hint);
+        assert!(output.stdout.is_empty());
+        assert_eq!(fs::read(&last).expect("the image"), bytes);
+        // Both ways that it names.
+        let args = ["--image", &image, "--stepping", "2"];
+        assert_eq!(saved(&args, &[]), image_by_hand(2, 1, 0x22));
+        let args = [&["--image", &image, "--power-up"], given].concat();
+        assert_eq!(saved(&args, &idle), image_by_hand(2, 0, 0x38));
+        fs::write(&last, &bytes).expect("the image");
+    }
+    // What is not sound on either has no hint.
+    for (stepping, a0) in [(0, 0x23), (0, 0x62), (1, 0x23), (1, 0x62)] {
+        let image = folder.write("image", &image_by_hand(2, stepping, a0));
+        for given in ["--stepping=1", "--stepping=2"] {
+            let output = replay(&["--image", &image, given], &[]);
+            fails(&output, 1, "the state is not sound\n");
+        }
+    }
+}
+
 #[test]
 fn an_image_is_saved_and_loaded_again() {
     let folder = Folder::new("an_image_is_saved_and_loaded_again");
@@ -894,16 +1247,19 @@ fn a_bad_image() {
     let good = fs::read(&image).expect("the image");
 
     type Change = fn(&mut Vec<u8>);
-    let changes: [(Change, &str); 17] = [
+    let changes: [(Change, &str); 20] = [
         (|bytes| bytes.clear(), "not an image file"),
         (|bytes| bytes[0] = b'X', "not an image file"),
         (|bytes| bytes.truncate(20), "ends inside its head"),
         (|bytes| bytes[8] = 3, "version 3"),
         (|bytes| bytes[8] = 1, "has 748 bytes"),
         (|bytes| bytes[12] = 17, "no part that is known"),
-        (|bytes| bytes[30] = 1, "no part that is known"),
+        (|bytes| bytes[30] = 2, "no part that is known"),
+        (|bytes| bytes[30] = 0xFF, "no part that is known"),
+        (|bytes| bytes[31] = 1, "no part that is known"),
         (|bytes| bytes.push(0), "has 749 bytes"),
         (|bytes| bytes.truncate(OLD_IMAGE), "has 704 bytes"),
+        (|bytes| bytes[OLD_IMAGE] = 0x3A, "the state is not sound"),
         (|bytes| bytes[OLD_IMAGE + 2] = 0, "the state is not sound"),
         (|bytes| bytes[OLD_IMAGE + 4] = 2, "the state is not sound"),
         (|bytes| bytes[OLD_IMAGE + 10] = 5, "the state is not sound"),
@@ -1074,11 +1430,35 @@ fn a_device_is_saved_and_goes_on() {
     log.transfer(&[0x0F, 0xC0, 0x00]);
     log.push(Record::Power);
     log.push(Record::Select);
-    cut_everywhere(&folder, log.as_bytes());
+    cut_everywhere(&folder, Stepping::First, log.as_bytes());
     let mut logs =
         (0..100).map(|number| Generator::new(0xC07, number).sound_log(&Geometry::bench(), 8));
     let log = logs.find(|log| log.len() > 30);
-    cut_everywhere(&folder, &log.expect("a log that is not short"));
+    cut_everywhere(
+        &folder,
+        Stepping::First,
+        &log.expect("a log that is not short"),
+    );
+}
+
+/// The same on the second stepping, which is named for the first part alone: CMP is kept.
+#[test]
+fn a_device_of_the_second_stepping_is_saved_and_goes_on() {
+    let folder = Folder::new("a_device_of_the_second_stepping_is_saved_and_goes_on");
+    let mut log = Log::new();
+    log.push(Record::Work(20));
+    log.transfer(&[0x1F, 0xA0, 0x26]);
+    log.transfer(&[0x06]);
+    log.transfer(&[0xD8, 0x00, 0x00, 0x03]);
+    log.push(Record::Work(33));
+    log.transfer(&[0xFF]);
+    log.push(Record::Work(8));
+    log.transfer(&[0x0F, 0xA0, 0x00]);
+    log.transfer(&[0x06]);
+    log.transfer(&[0xD8, 0x00, 0x00, 0x04]);
+    log.push(Record::Power);
+    log.transfer(&[0x0F, 0xA0, 0x00]);
+    cut_everywhere(&folder, Stepping::Second, log.as_bytes());
 }
 
 /// Saved after 5 units of a reset, a device goes on with the sixth.
@@ -1108,11 +1488,17 @@ fn a_device_is_saved_in_a_reset() {
     );
 }
 
-fn cut_everywhere(folder: &Folder, log: &[u8]) {
+fn cut_everywhere(folder: &Folder, stepping: Stepping, log: &[u8]) {
+    let named = match stepping {
+        Stepping::First => "--stepping=1",
+        Stepping::Second => "--stepping=2",
+    };
     let file = |name: &str| folder.file(name);
     let read = |name: &str| fs::read(folder.file(name)).expect("a file");
     let (image, out, between, last) = (file("image"), file("out"), file("between"), file("last"));
-    let args = ["replay", "--trace", "--save", &image, "--out", &out, "-"];
+    let args = [
+        "replay", "--trace", named, "--save", &image, "--out", &out, "-",
+    ];
     let whole = succeeds(&with_input(&args, log));
     let (image, out) = (read("image"), read("out"));
     let mut records = Records::new(log);
@@ -1120,7 +1506,7 @@ fn cut_everywhere(folder: &Folder, log: &[u8]) {
         let (first, second) = log.split_at(records.place());
         let (before, after) = (file("before"), file("after"));
         let args = [
-            "replay", "--trace", "--save", &between, "--out", &before, "-",
+            "replay", "--trace", named, "--save", &between, "--out", &before, "-",
         ];
         let one = succeeds(&with_input(&args, first));
         let args = ["--image", &between, "--save", &last, "--out", &after, "-"];
@@ -1134,7 +1520,8 @@ fn cut_everywhere(folder: &Folder, log: &[u8]) {
             "cut at byte {place}"
         );
 
-        let mut device = Device::power_up(Geometry::bench()).expect("a device");
+        let part = Geometry::bench().with_stepping(stepping);
+        let mut device = Device::power_up(part).expect("a device");
         let answer = device.run(first, &mut vec![0; first.len() / 2]);
         assert_eq!(answer.refusal, None);
         if !device.state().is_selected() {

@@ -3,11 +3,12 @@
 
 use std::collections::HashSet;
 use std::error::Error;
+use std::fs;
 
 use sleetanvil::lent::{self, Memory};
 use sleetanvil::page::{self, Sizes};
 use sleetanvil::{
-    Device, Geometry, Grant, Job, Keeper, Log, Operation, Record, Records, Refusal, State,
+    Device, Geometry, Grant, Job, Keeper, Log, Operation, Record, Records, Refusal, State, Stepping,
 };
 
 /// A bench part that has done its power-up read and is unlocked.
@@ -272,6 +273,244 @@ fn wp_holds_a_locked_register() {
     device.level(true);
     device.transfer(&[0x1F, 0xA0, 0x00]);
     assert_eq!(device.state().a0, 0x00);
+}
+
+/// A part on a stepping, with its power-up read done.
+fn idle(geometry: Geometry, stepping: Stepping) -> Device {
+    let mut device = Device::power_up(geometry.with_stepping(stepping)).expect("sound");
+    device.work(device.units_left() as u64);
+    device
+}
+
+/// What Get Feature answers of A0h.
+fn read_a0(device: &mut Device) -> u8 {
+    device.transfer(&[0x0F, 0xA0, 0x00])[2]
+}
+
+/// The blocks whose erase fails, and they are those whose first page cannot be programmed.
+fn protected(device: &Device) -> Vec<u32> {
+    let Geometry { pages, blocks, .. } = *device.geometry();
+    let fails = |code, block: u32| {
+        let [_, _, high, low] = (block * pages).to_be_bytes();
+        let mut device = device.clone();
+        device.transfer(&[0x06]);
+        device.transfer(&[code, 0x00, high, low]);
+        let state = device.state();
+        assert!(state.is_busy() != (state.erase_failed() || state.program_failed()));
+        !state.is_busy()
+    };
+    let erase: Vec<_> = (0..blocks).filter(|&block| fails(0xD8, block)).collect();
+    let program: Vec<_> = (0..blocks).filter(|&block| fails(0x10, block)).collect();
+    assert_eq!(erase, program);
+    erase
+}
+
+#[test]
+fn a_part_names_its_stepping() {
+    assert_eq!(Stepping::default(), Stepping::First);
+    for part in [Geometry::bench(), Geometry::fm25s005bi3()] {
+        assert_eq!(part.stepping, Stepping::First);
+        assert_eq!(part.with_stepping(Stepping::First), part);
+        let second = part.with_stepping(Stepping::Second);
+        assert_eq!(second.stepping, Stepping::Second);
+        assert_ne!(second, part);
+        assert_eq!(second.with_stepping(Stepping::First), part);
+        assert!(second.is_sound());
+        assert_eq!(second.cells_len(), part.cells_len());
+        assert_eq!(second.cache_len(), part.cache_len());
+        assert_eq!(second.counts_len(), part.counts_len());
+        for job in [Job::Read, Job::Program, Job::Erase, Job::Reset] {
+            assert_eq!(second.operation_len(job), part.operation_len(job));
+        }
+        // Both have one page, and it names no stepping.
+        assert_eq!(copies(&second), copies(&part));
+        let sizes = page::read(&copies(&second)).expect("a copy that holds");
+        assert_eq!(sizes.geometry(part.identity), part);
+    }
+    let mut unsound = Geometry::bench().with_stepping(Stepping::Second);
+    unsound.blocks = 0;
+    assert_eq!(Device::power_up(unsound), Err(Refusal::BadPart));
+}
+
+/// On the bench part, by erase and by program: bit 1 of A0h changes nothing on the first stepping,
+/// and on the second it is CMP.
+#[test]
+fn cmp_protects_the_other_blocks() {
+    let (none, all): (&[u32], &[u32]) = (&[], &[0, 1, 2, 3, 4, 5, 6, 7]);
+    #[rustfmt::skip]
+    let cases: [(u8, &[u32], &[u32]); 20] = [
+        (0x00, none, none),
+        (0x02, none, none),
+        (0x06, none, none),
+        (0x08, none, none),
+        (0x0A, none, all),
+        (0x0E, none, all),
+        (0x1A, none, all),
+        (0x1E, none, all),
+        (0x20, &[7], &[7]),
+        (0x22, &[7], &[0, 1, 2, 3, 4, 5, 6]),
+        (0x26, &[0], &[1, 2, 3, 4, 5, 6, 7]),
+        (0x2A, &[6, 7], &[0, 1, 2, 3, 4, 5]),
+        (0x2C, &[0, 1], &[0, 1]),
+        (0x2E, &[0, 1], &[2, 3, 4, 5, 6, 7]),
+        (0x32, &[4, 5, 6, 7], &[0, 1, 2, 3]),
+        (0x36, &[0, 1, 2, 3], &[4, 5, 6, 7]),
+        (0x3A, all, all),
+        (0x3E, all, all),
+        (0xA2, &[7], &[0, 1, 2, 3, 4, 5, 6]),
+        (0xFF, all, all),
+    ];
+    for (a0, first, second) in cases {
+        for (stepping, mask, blocks) in [
+            (Stepping::First, 0xBC, first),
+            (Stepping::Second, 0xBE, second),
+        ] {
+            let mut device = idle(Geometry::bench(), stepping);
+            device.transfer(&[0x1F, 0xA0, a0]);
+            assert_eq!(device.state().a0, a0 & mask);
+            assert_eq!(read_a0(&mut device), a0 & mask);
+            assert_eq!(protected(&device), blocks, "A0h {a0:02X}h, {stepping:?}");
+        }
+    }
+    // Three blocks and one, where little or nothing is left of a part of them.
+    for (blocks, a0, expected) in [
+        (3, 0x32, &[0, 1][..]),
+        (3, 0x36, &[1, 2]),
+        (3, 0x2A, &[0, 1, 2]),
+        (1, 0x32, &[0]),
+        (1, 0x36, &[0]),
+        (1, 0x02, &[]),
+    ] {
+        let part = Geometry {
+            blocks,
+            ..Geometry::bench()
+        };
+        let mut device = idle(part, Stepping::Second);
+        device.transfer(&[0x1F, 0xA0, a0]);
+        assert_eq!(protected(&device), expected, "A0h {a0:02X}h of {blocks}");
+        // A row outside the array fails for itself.
+        device.transfer(&[0x06]);
+        device.transfer(&[0xD8, 0x00, 0x00, 4 * blocks as u8]);
+        assert!(device.state().erase_failed());
+    }
+}
+
+/// A reset leaves CMP, a power loss clears it, BRWD with WP# low holds it.
+#[test]
+fn cmp_is_kept_and_lost() {
+    let mut device = idle(Geometry::bench(), Stepping::Second);
+    device.transfer(&[0x1F, 0xA0, 0x22]);
+    device.transfer(&[0xFF]);
+    device.work(8);
+    assert_eq!(read_a0(&mut device), 0x22);
+    assert_eq!(protected(&device), [0, 1, 2, 3, 4, 5, 6]);
+    device.power();
+    assert_eq!(device.state(), &State::power_up());
+    assert_eq!(read_a0(&mut device), 0x38);
+    device.work(20);
+
+    device.transfer(&[0x1F, 0xA0, 0xA2]);
+    device.level(false);
+    for a0 in [0x00, 0xA0, 0x20, 0xFF] {
+        device.transfer(&[0x1F, 0xA0, a0]);
+        assert_eq!(read_a0(&mut device), 0xA2);
+    }
+    device.level(true);
+    device.transfer(&[0x1F, 0xA0, 0xA0]);
+    assert_eq!(read_a0(&mut device), 0xA0);
+}
+
+/// Protection is asked as an operation begins: one under way goes on where A0h has become another,
+/// which only a caller can do, and a page that was open once is protected the next time.
+#[test]
+fn cmp_counts_as_an_operation_begins() {
+    let mut device = idle(Geometry::bench(), Stepping::Second);
+    device.transfer(&[0x1F, 0xA0, 0x20]);
+    device.transfer(&[0x06]);
+    device.transfer(&[0x02, 0x00, 0x00, 0x5A]);
+    device.transfer(&[0x10, 0x00, 0x00, 0x00]);
+    device.transfer(&[0x1F, 0xA0, 0x22]);
+    assert_eq!(read_a0(&mut device), 0x20, "ignored while busy");
+    let (geometry, state, cells, cache, counts) = device.into_parts();
+    let state = State { a0: 0x22, ..state };
+    let mut device = Device::from_parts(geometry, state, cells, cache, counts).expect("sound");
+    device.work(20);
+    assert_eq!((device.status(), device.cells()[0]), (0x00, 0x5A));
+
+    device.transfer(&[0x06]);
+    device.transfer(&[0x02, 0x00, 0x00, 0x00]);
+    device.transfer(&[0x10, 0x00, 0x00, 0x00]);
+    device.work(20);
+    assert_eq!((device.status(), device.cells()[0]), (0x08, 0x5A));
+    assert_eq!(device.counts()[0], 1);
+}
+
+#[test]
+fn a_sound_state_goes_by_the_stepping() {
+    let first = Geometry::bench();
+    let second = first.with_stepping(Stepping::Second);
+    for a0 in 0..=0xFF {
+        let state = State {
+            a0,
+            ..State::power_up()
+        };
+        for (geometry, mask) in [(first, 0xBC), (second, 0xBE)] {
+            let sound = a0 & !mask == 0;
+            assert_eq!(state.is_sound(&geometry), sound, "{a0:02X}h, {geometry:?}");
+            let (cells, cache, counts) = (vec![0; 640], vec![0; 20], vec![0; 32]);
+            let device = Device::from_parts(geometry, state, cells, cache, counts);
+            match device {
+                Ok(device) => assert!(sound && device.state().a0 == a0),
+                Err(refusal) => assert!(!sound && refusal == Refusal::BadState),
+            }
+        }
+    }
+}
+
+/// The table of the second stepping in `docs/FOR-DRIVERS.md`: each value of A0h in it, and its
+/// blocks, on a part of as many blocks as the FM25S005BI3 has.
+#[test]
+fn the_drivers_table_of_the_second_stepping() {
+    const HEAD: &str = "| b | CMP 0, INV 0 | CMP 0, INV 1 | CMP 1, INV 0 | CMP 1, INV 1 |";
+    let paper = concat!(env!("CARGO_MANIFEST_DIR"), "/../docs/FOR-DRIVERS.md");
+    let paper = fs::read_to_string(paper).expect("the paper for drivers");
+    let table = paper.lines().skip_while(|line| *line != HEAD);
+    let table = table.skip(2).take_while(|line| line.starts_with('|'));
+    let part = Geometry {
+        data: 1,
+        spare: 0,
+        pages: 1,
+        blocks: 512,
+        ..Geometry::bench()
+    };
+    let mut device = idle(part, Stepping::Second);
+    let mut rows = 0;
+    for (b, line) in (0..).zip(table) {
+        let cells: Vec<_> = line.split('|').map(str::trim).collect();
+        let ["", number, plain, inv, cmp, both, ""] = cells[..] else {
+            panic!("{line}");
+        };
+        assert_eq!(number, b.to_string());
+        for (bits, cell) in [(0, plain), (4, inv), (2, cmp), (6, both)] {
+            let a0 = b << 3 | bits;
+            let (value, which) = cell.split_once(": ").expect(line);
+            assert_eq!(value, format!("{a0:02X}h"), "{line}");
+            let expected: Vec<u32> = match which.split_once(" to ") {
+                Some((first, last)) => {
+                    let number = |text: &str| text.parse::<u32>().expect(line);
+                    (number(first)..=number(last)).collect()
+                }
+                None => {
+                    assert_eq!(which, "none", "{line}");
+                    Vec::new()
+                }
+            };
+            device.transfer(&[0x1F, 0xA0, a0]);
+            assert_eq!(protected(&device), expected, "{line}");
+        }
+        rows += 1;
+    }
+    assert_eq!(rows, 8);
 }
 
 #[test]

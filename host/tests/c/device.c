@@ -145,6 +145,11 @@ static void check_wrong_lengths(void)
     CHECK(sleet_device_init(&device, unsound, cells, 640, cache, 20, counts, 32) == SLEET_BAD_PART);
     CHECK(same_state(device.state, sleet_power_up()));
     check_unusable(device, SLEET_BAD_PART);
+    unsound = part;
+    unsound.stepping = 2;
+    CHECK(sleet_device_init(&device, unsound, cells, 639, cache, 20, counts, 32) == SLEET_BAD_PART);
+    check_unusable(device, SLEET_BAD_PART);
+    CHECK(sleet_device_peek(&device) == 0xFF && sleet_device_units_left(&device) == 0);
     CHECK(sleet_device_init(&device, part, cells, 639, cache, 20, counts, 32) == SLEET_BAD_CELLS);
     CHECK(same_state(device.state, sleet_power_up()) && device.refusal == SLEET_BAD_CELLS);
     check_unusable(device, SLEET_BAD_CELLS);
@@ -364,6 +369,46 @@ static void check_page(void)
     CHECK(all(cells, sizeof cells, 0xFF) && counts[5] == 0);
 }
 
+/* Returns A0h, asked for on the bus. */
+static uint8_t protection(sleet_device *device)
+{
+    static const uint8_t get_protection[] = {SLEET_CODE_GET_FEATURE, SLEET_A0, 0};
+
+    transfer(device, get_protection, sizeof get_protection);
+    return out[2];
+}
+
+/* A device of a stepping keeps the last block open: 22h, which has CMP. On the first stepping that is the one block protected. */
+static void check_stepping(uint8_t stepping)
+{
+    static const uint8_t set_feature[] = {SLEET_CODE_SET_FEATURE, SLEET_A0, 0x22};
+    static const uint8_t reset[] = {SLEET_CODE_RESET};
+    const bool second = stepping == SLEET_SECOND;
+    const uint8_t a0 = second ? 0x22 : 0x20;
+    sleet_geometry part = sleet_bench();
+    sleet_device device;
+
+    part.stepping = stepping;
+    CHECK(sleet_device_init(&device, part, cells, sizeof cells, cache, sizeof cache, counts, sizeof counts) == SLEET_DONE);
+    CHECK(sleet_device_work(&device, 20) == SLEET_DONE && device.part.stepping == stepping && protection(&device) == 0x38);
+    transfer(&device, set_feature, sizeof set_feature);
+    CHECK(device.state.a0 == a0 && protection(&device) == a0);
+
+    request(&device, SLEET_CODE_BLOCK_ERASE, 28);
+    CHECK(status(&device) == (second ? SLEET_C0_OIP : SLEET_C0_E_FAIL) && sleet_device_work(&device, 80) == SLEET_DONE);
+    request(&device, SLEET_CODE_BLOCK_ERASE, 27);
+    CHECK(status(&device) == (second ? SLEET_C0_E_FAIL : SLEET_C0_OIP) && sleet_device_work(&device, 80) == SLEET_DONE);
+    request(&device, SLEET_CODE_EXECUTE, 31);
+    CHECK(status(&device) == (second ? SLEET_C0_OIP : SLEET_C0_P_FAIL) && sleet_device_work(&device, 20) == SLEET_DONE);
+    request(&device, SLEET_CODE_EXECUTE, 0);
+    CHECK(status(&device) == (second ? SLEET_C0_P_FAIL : SLEET_C0_OIP) && sleet_device_work(&device, 20) == SLEET_DONE);
+    CHECK(counts[31] == (second ? 1 : 0) && counts[0] == (second ? 0 : 1));
+
+    transfer(&device, reset, sizeof reset);
+    CHECK(sleet_device_work(&device, 8) == SLEET_DONE && protection(&device) == a0);
+    CHECK(sleet_device_power(&device) == SLEET_DONE && protection(&device) == 0x38);
+}
+
 /*
  * A cache read goes on at column 0 behind the page's end, as a transfer, in pieces, by events and by a log: here from column 17, three
  * bytes to the end, the whole page, and one byte more. From a column outside the page it is FFh throughout, and a load is dropped there.
@@ -560,6 +605,8 @@ int main(void)
     check_read_id();
     check_probe();
     check_page();
+    check_stepping(SLEET_FIRST);
+    check_stepping(SLEET_SECOND);
     check_round();
     check_too_little_room();
     check_continued();

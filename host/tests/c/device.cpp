@@ -113,6 +113,14 @@ static void check_refused()
     CHECK(flash.peek() == 0xFF && flash.units_left() == 0);
     check_unusable(flash, SLEET_BAD_PART);
 
+    unsound = sleet_bench();
+    unsound.stepping = 2;
+    flash = device(unsound);
+    CHECK(flash.refusal() == SLEET_BAD_PART && flash.cells().empty() && flash.cache().empty() && flash.counts().empty());
+    CHECK(flash.peek() == 0xFF && flash.units_left() == 0);
+    check_unusable(flash, SLEET_BAD_PART);
+    check_unusable(device(unsound, state, bytes(640), bytes(20), bytes(32)), SLEET_BAD_PART);
+
     flash = device(sleet_bench(), bytes(639), bytes(32));
     CHECK(flash.refusal() == SLEET_BAD_CELLS && same_state(flash.state(), state));
     check_unusable(flash, SLEET_BAD_CELLS);
@@ -240,6 +248,41 @@ static void check_transfers()
     request(flash, SLEET_CODE_BLOCK_ERASE, 4);
     CHECK(flash.units_left() == 80 && flash.work(79) == SLEET_DONE && flash.busy());
     CHECK(flash.work(1) == SLEET_DONE && flash.ready() && flash.cells() == bytes(640, 0xFF) && flash.counts() == bytes(32, 0));
+}
+
+/* Both steppings: A0h through its mask, and 2Eh, which has CMP: of eight blocks 0 and 1 on the first, and the others on the second. */
+static void check_stepping()
+{
+    const bytes get_protection = {SLEET_CODE_GET_FEATURE, SLEET_A0, 0};
+    sleet_geometry part = sleet_bench();
+
+    for (uint8_t stepping : {SLEET_FIRST, SLEET_SECOND}) {
+        const bool second = stepping == SLEET_SECOND;
+        part.stepping = stepping;
+        device flash(part);
+        CHECK(flash && flash.part().stepping == stepping && flash.work(20) == SLEET_DONE);
+        CHECK(transfer(flash, get_protection)[2] == 0x38);
+        transfer(flash, {SLEET_CODE_SET_FEATURE, SLEET_A0, 0xFF});
+        CHECK(transfer(flash, get_protection)[2] == (second ? 0xBE : 0xBC));
+        transfer(flash, {SLEET_CODE_SET_FEATURE, SLEET_A0, 0x2E});
+        CHECK(transfer(flash, get_protection)[2] == (second ? 0x2E : 0x2C));
+        for (uint8_t row = 0; row < 32; row++) {
+            const bool fails = second ? row >= 8 : row < 8;
+            device erased(flash);
+            device programmed(flash);
+            request(erased, SLEET_CODE_BLOCK_ERASE, row);
+            request(programmed, SLEET_CODE_EXECUTE, row);
+            CHECK(erased.state().c0 == (fails ? SLEET_C0_E_FAIL : SLEET_C0_OIP));
+            CHECK(programmed.state().c0 == (fails ? SLEET_C0_P_FAIL : SLEET_C0_OIP));
+        }
+
+        /* A copy has its part's stepping; the state goes to the other stepping only without CMP. */
+        const device kept(flash);
+        part.stepping = second ? SLEET_FIRST : SLEET_SECOND;
+        device other(part, kept.state(), kept.cells(), kept.cache(), kept.counts());
+        CHECK(kept.part().stepping == stepping && other.check() == (second ? SLEET_BAD_STATE : SLEET_DONE));
+        CHECK(flash.power() == SLEET_DONE && flash.state().a0 == 0x38);
+    }
 }
 
 /* A cache read goes on at column 0 behind the page's end, as a transfer, in pieces, by events and by a log; one from outside does not. */
@@ -432,6 +475,7 @@ int main()
     check_logs();
     check_probe();
     check_transfers();
+    check_stepping();
     check_round();
     check_pieces();
     check_questions();

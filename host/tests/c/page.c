@@ -152,14 +152,15 @@ static void check_check(void)
     }
 }
 
-/* A page is the datasheet's, with the part's sizes; nothing behind it is written, whatever is lent. */
-static void check_made(sleet_geometry part, uint16_t known)
+/* A page is the datasheet's, with the part's sizes, on both steppings; nothing behind it is written, whatever is lent. */
+static void check_made(sleet_geometry part, uint8_t stepping, uint16_t known)
 {
     static const size_t lengths[4] = {SLEET_PAGE_LENGTH, SLEET_PAGE_LENGTH + 1, COPIES, COPIES + 32};
     uint8_t wanted[SLEET_PAGE_LENGTH];
     uint8_t memory[COPIES + 32];
     size_t i;
 
+    part.stepping = stepping;
     page_of(part, wanted);
     CHECK(wanted[CHECK_AT] == (known & 0xFF) && wanted[CHECK_AT + 1] == known >> 8);
     for (i = 0; i < sizeof lengths / sizeof *lengths; i++) {
@@ -176,19 +177,21 @@ static void check_made(sleet_geometry part, uint16_t known)
     CHECK(sizes_are(sleet_page_read(memory, COPIES), 0, part) && sizes_are(sleet_page_read(memory, sizeof memory), 0, part));
 }
 
-/* 1 comes before 11, and neither changes a byte. */
+/* 1 comes before 11, and neither changes a byte; a stepping above 1 is 1 too. */
 static void check_make_refused(void)
 {
     static const sleet_geometry unsound[] = {
-        {0, 4, 4, 8, 0x5A, 0x01},
-        {16, 4081, 4, 8, 0x5A, 0x01},
-        {16, UINT32_MAX, 4, 8, 0x5A, 0x01},
-        {16, 4, 0, 8, 0x5A, 0x01},
-        {16, 4, 257, 8, 0x5A, 0x01},
-        {16, 4, 4, 0, 0x5A, 0x01},
-        {16, 4, 4, 16385, 0x5A, 0x01},
+        {0, 4, 4, 8, 0x5A, 0x01, SLEET_FIRST},
+        {16, 4081, 4, 8, 0x5A, 0x01, SLEET_SECOND},
+        {16, UINT32_MAX, 4, 8, 0x5A, 0x01, SLEET_FIRST},
+        {16, 4, 0, 8, 0x5A, 0x01, SLEET_FIRST},
+        {16, 4, 257, 8, 0x5A, 0x01, SLEET_SECOND},
+        {16, 4, 4, 0, 0x5A, 0x01, SLEET_FIRST},
+        {16, 4, 4, 16385, 0x5A, 0x01, SLEET_FIRST},
     };
+    sleet_geometry part = sleet_bench();
     uint8_t memory[COPIES];
+    unsigned stepping;
     size_t i;
     size_t length;
 
@@ -197,6 +200,12 @@ static void check_make_refused(void)
         CHECK(sleet_page_make(unsound[i], memory, sizeof memory) == SLEET_BAD_PART);
         CHECK(sleet_page_make(unsound[i], memory, SLEET_PAGE_LENGTH - 1) == SLEET_BAD_PART);
         CHECK(sleet_page_make(unsound[i], memory, 0) == SLEET_BAD_PART);
+    }
+    for (stepping = 2; stepping <= 255; stepping++) {
+        part.stepping = (uint8_t)stepping;
+        CHECK(sleet_page_make(part, memory, sizeof memory) == SLEET_BAD_PART);
+        CHECK(sleet_page_make(part, memory, SLEET_PAGE_LENGTH - 1) == SLEET_BAD_PART);
+        CHECK(sleet_page_make(part, memory, 0) == SLEET_BAD_PART);
     }
     for (length = 0; length < SLEET_PAGE_LENGTH; length++) {
         CHECK(sleet_page_make(sleet_bench(), memory, length) == SLEET_SHORT_MEMORY);
@@ -256,7 +265,7 @@ static void check_every_bit(void)
 /* Signature and check are judged and nothing else: any sizes are answered as they stand, and any other byte is let be. */
 static void check_judged(void)
 {
-    sleet_geometry part = {UINT32_MAX, 0xFFFF, 0x80000001, 0, 0, 0};
+    sleet_geometry part = {UINT32_MAX, 0xFFFF, 0x80000001, 0, 0, 0, SLEET_FIRST};
     uint8_t memory[COPIES];
     uint8_t kept[COPIES];
 
@@ -306,8 +315,10 @@ int main(void)
 {
     check_names();
     check_check();
-    check_made(sleet_fm25s005bi3(), 0xB77C);
-    check_made(sleet_bench(), 0xF954);
+    check_made(sleet_fm25s005bi3(), SLEET_FIRST, 0xB77C);
+    check_made(sleet_fm25s005bi3(), SLEET_SECOND, 0xB77C);
+    check_made(sleet_bench(), SLEET_FIRST, 0xF954);
+    check_made(sleet_bench(), SLEET_SECOND, 0xF954);
     check_make_refused();
     check_copies();
     check_every_bit();

@@ -52,6 +52,15 @@ static void check_sized()
     CHECK(flash && flash.work(20) == SLEET_DONE && flash.transfer(read_id, sizeof read_id, out, sizeof out) == SLEET_DONE);
     CHECK(out[2] == 0x5A && out[3] == 0x01);
 
+    /* Of the first stepping, unless another is asked for. */
+    CHECK(found.part(0x5A, 0x01).stepping == SLEET_FIRST && found.part(0x5A, 0x01, SLEET_SECOND).stepping == SLEET_SECOND);
+    const uint8_t set_feature[] = {SLEET_CODE_SET_FEATURE, SLEET_A0, 0xFF};
+    sleetanvil::device second(found.part(0x5A, 0x01, SLEET_SECOND));
+    CHECK(flash.transfer(set_feature, sizeof set_feature, out, sizeof out) == SLEET_DONE && flash.state().a0 == 0xBC);
+    CHECK(second && second.work(20) == SLEET_DONE);
+    CHECK(second.transfer(set_feature, sizeof set_feature, out, sizeof out) == SLEET_DONE && second.state().a0 == 0xBE);
+    CHECK(sleetanvil::device(found.part(0x5A, 0x01, 2)).check() == SLEET_BAD_PART);
+
     memory[512 + 255] ^= 0x80;
     CHECK(refused(page_read(memory.data(), memory.size()), SLEET_NO_COPY));
 }

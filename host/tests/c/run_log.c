@@ -1,8 +1,9 @@
 /*
  * The C interface from C, and from C++ (the file is compiled as both): document 01's log on the bench part, refusals, transfers, cache
- * reads past the page's end, resets, single events, questions, blank memory, records of a log, and texts. Each check that fails is printed;
- * the program's status is 0 if there is none.
+ * reads past the page's end, resets, both steppings and what is none, single events, questions, blank memory, records of a log, and texts.
+ * Each check that fails is printed; the program's status is 0 if there is none.
  */
+#include <stddef.h>
 #include <string.h>
 
 #include "check.h"
@@ -54,12 +55,20 @@ static void check_parts(void)
 
     CHECK(bench.data == 16 && bench.spare == 4 && bench.pages == 4 && bench.blocks == 8 && bench.id0 == 0x5A && bench.id1 == 0x01);
     CHECK(real.data == 2048 && real.spare == 128 && real.pages == 64 && real.blocks == 512 && real.id0 == 0xA1 && real.id1 == 0xD5);
+    CHECK(bench.stepping == SLEET_FIRST && real.stepping == SLEET_FIRST);
     CHECK(sleet_geometry_sound(bench) && sleet_geometry_sound(real));
     CHECK(sleet_cells_length(bench) == 640 && sleet_cache_length(bench) == 20 && sleet_counts_length(bench) == 32);
     CHECK(sleet_cells_length(real) == 71303168 && sleet_cache_length(real) == 2176 && sleet_counts_length(real) == 32768);
     unsound.blocks = 0;
     CHECK(!sleet_geometry_sound(unsound));
     CHECK(sleet_cells_length(unsound) == 0 && sleet_cache_length(unsound) == 0 && sleet_counts_length(unsound) == 0);
+    bench.stepping = SLEET_SECOND;
+    CHECK(sleet_geometry_sound(bench));
+    CHECK(sleet_cells_length(bench) == 640 && sleet_cache_length(bench) == 20 && sleet_counts_length(bench) == 32);
+    CHECK(sleet_operation_length(bench, SLEET_ERASE) == 80 && sleet_operation_length(bench, SLEET_RESET) == 8);
+    CHECK(offsetof(sleet_geometry, data) == 0 && offsetof(sleet_geometry, spare) == 4 && offsetof(sleet_geometry, pages) == 8);
+    CHECK(offsetof(sleet_geometry, blocks) == 12 && offsetof(sleet_geometry, id0) == 16 && offsetof(sleet_geometry, id1) == 17);
+    CHECK(offsetof(sleet_geometry, stepping) == 18);
 }
 
 static void check_power_up(void)
@@ -203,7 +212,7 @@ static void check_names(void)
     uint8_t di[3] = {SLEET_CODE_GET_FEATURE, 0, 0};
     size_t i;
 
-    CHECK(sleet_version() == SLEET_VERSION);
+    CHECK(sleet_version() == SLEET_VERSION && SLEET_VERSION == 3 && SLEET_FIRST == 0 && SLEET_SECOND == 1 && SLEET_A0_CMP == 0x02);
     for (i = 0; i < 4; i++) {
         erase_all();
         di[1] = addresses[i];
@@ -477,6 +486,192 @@ static void check_blank(void)
     CHECK(refused(run(sleet_power_up(), none, 0, 0), SLEET_DONE, 0, 0, 0));
 }
 
+/* Sends a transfer to a part of the bench part's sizes. Returns the state after it. */
+static sleet_state sent(sleet_geometry part, sleet_state state, const uint8_t *di, size_t length)
+{
+    sleet_answer answer = sleet_transfer(part, state, di, length, MEMORY, out, sizeof out);
+
+    CHECK(refused(answer, SLEET_DONE, length + 2, 0, length));
+    return answer.state;
+}
+
+/* Writes A0h. Returns the state after it. */
+static sleet_state with_a0(sleet_geometry part, sleet_state state, uint8_t a0)
+{
+    uint8_t di[3] = {SLEET_CODE_SET_FEATURE, SLEET_A0, 0};
+
+    di[2] = a0;
+    return sent(part, state, di, sizeof di);
+}
+
+/* Returns A0h as Get Feature answers it. */
+static uint8_t a0_read(sleet_geometry part, sleet_state state)
+{
+    static const uint8_t di[3] = {SLEET_CODE_GET_FEATURE, SLEET_A0, 0};
+
+    sent(part, state, di, sizeof di);
+    return out[2];
+}
+
+/* Returns the blocks of the bench part, a bit for each, that fail an erase, or a program of their first page. */
+static unsigned failing(sleet_geometry part, sleet_state state, uint8_t code, uint8_t fail)
+{
+    static const uint8_t write_enable[1] = {SLEET_CODE_WRITE_ENABLE};
+    uint8_t di[4] = {0};
+    unsigned blocks = 0;
+    unsigned block;
+
+    for (block = 0; block < 8; block++) {
+        sleet_state after;
+        erase_all();
+        di[0] = code;
+        di[3] = (uint8_t)(4 * block);
+        after = sent(part, sent(part, state, write_enable, sizeof write_enable), di, sizeof di);
+        CHECK(after.c0 == fail || after.c0 == SLEET_C0_OIP);
+        blocks |= after.c0 == fail ? 1u << block : 0;
+    }
+    return blocks;
+}
+
+/* Bit 1 of A0h is nothing on the first stepping and CMP on the second: what reads back, and which blocks are protected. */
+static void check_steppings(void)
+{
+    static const struct {
+        uint8_t a0;
+        uint8_t blocks[2]; /* on the first and on the second stepping */
+    } lines[] = {
+        {0x00, {0x00, 0x00}}, {0x02, {0x00, 0x00}}, {0x06, {0x00, 0x00}}, /* b 0 */
+        {0x08, {0x00, 0x00}}, {0x0A, {0x00, 0xFF}}, {0x0E, {0x00, 0xFF}}, /* b 1: no block of eight */
+        {0x12, {0x00, 0xFF}}, {0x16, {0x00, 0xFF}}, {0x1A, {0x00, 0xFF}}, {0x1E, {0x00, 0xFF}},
+        {0x20, {0x80, 0x80}}, {0x22, {0x80, 0x7F}}, {0x24, {0x01, 0x01}}, {0x26, {0x01, 0xFE}}, /* b 4: one */
+        {0x2A, {0xC0, 0x3F}}, {0x2E, {0x03, 0xFC}}, {0x32, {0xF0, 0x0F}}, {0x36, {0x0F, 0xF0}},
+        {0x38, {0xFF, 0xFF}}, {0x3A, {0xFF, 0xFF}}, {0x3E, {0xFF, 0xFF}}, {0xFF, {0xFF, 0xFF}}, /* b 7 */
+        {0x40, {0x00, 0x00}}, {0x01, {0x00, 0x00}}, {0xA2, {0x80, 0x7F}}, {0x67, {0x01, 0xFE}}, /* with bits outside the mask */
+    };
+    static const uint8_t masks[2] = {0xBC, 0xBE};
+    static const uint8_t reset[1] = {SLEET_CODE_RESET};
+    sleet_geometry part = sleet_bench();
+    sleet_state start;
+    sleet_state state;
+    size_t i;
+
+    for (part.stepping = SLEET_FIRST; part.stepping <= SLEET_SECOND; part.stepping++) {
+        const uint8_t mask = masks[part.stepping];
+        erase_all();
+        start = sleet_work(part, sleet_power_up(), 20, MEMORY).state;
+        CHECK(start.a0 == 0x38 && a0_read(part, start) == 0x38);
+        for (i = 0; i < sizeof lines / sizeof *lines; i++) {
+            state = with_a0(part, start, lines[i].a0);
+            CHECK(state.a0 == (lines[i].a0 & mask) && a0_read(part, state) == state.a0);
+            CHECK(failing(part, state, SLEET_CODE_BLOCK_ERASE, SLEET_C0_E_FAIL) == lines[i].blocks[part.stepping]);
+            CHECK(failing(part, state, SLEET_CODE_EXECUTE, SLEET_C0_P_FAIL) == lines[i].blocks[part.stepping]);
+        }
+
+        /* A sound state: bit 1 on the second alone, bits 6 and 0 on neither. */
+        for (i = 0; i <= 0xFF; i++) {
+            const bool sound = (i & ~(size_t)mask) == 0;
+            sleet_answer answer;
+            state = start;
+            state.a0 = (uint8_t)i;
+            answer = sleet_work(part, state, 1, MEMORY);
+            CHECK(sleet_state_sound(part, state) == sound && same_state(answer.state, state));
+            CHECK(refused(answer, sound ? SLEET_DONE : SLEET_BAD_STATE, sound, sound ? 3 : 0, 0));
+        }
+    }
+
+    /* On the second: a reset leaves CMP, a power loss clears it, and with BRWD and WP# low it stays. */
+    part.stepping = SLEET_SECOND;
+    state = sent(part, with_a0(part, start, SLEET_A0_CMP | 0x20), reset, sizeof reset);
+    CHECK(state.job == SLEET_RESET && state.a0 == 0x22 && a0_read(part, state) == 0x22);
+    CHECK(same_state(sleet_power(part, state, MEMORY).state, sleet_power_up()));
+    state = sleet_level(part, with_a0(part, start, SLEET_A0_BRWD | SLEET_A0_CMP | 0x20), 0, MEMORY).state;
+    CHECK(state.a0 == 0xA2 && same_state(with_a0(part, state, 0x00), state));
+    state = sleet_level(part, state, 1, MEMORY).state;
+    CHECK(with_a0(part, state, 0x00).a0 == 0x00);
+}
+
+/* Returns whether an answer is that to no part: refusal 1, nothing done, the state as it was. */
+static bool to_no_part(sleet_answer answer, sleet_state state)
+{
+    return refused(answer, SLEET_BAD_PART, 0, 0, 0) && same_state(answer.state, state);
+}
+
+/* Every function refuses a part with 1, before it looks at lengths, which may be short by some bytes, room and state. */
+static void check_no_part(sleet_geometry part, sleet_state state, size_t cut)
+{
+    static const uint8_t log[] = {SLEET_KIND_SELECT, SLEET_KIND_SHIFT, SLEET_CODE_WRITE_ENABLE, SLEET_KIND_DESELECT, 0x07};
+    const size_t room = cut == 0 ? sizeof out : 0;
+    sleet_peeked peeked;
+
+#define SHORT cells, sizeof cells - cut, cache, sizeof cache - cut, counts, sizeof counts - cut
+    CHECK(to_no_part(sleet_run(part, state, log, sizeof log, SHORT, out, room), state));
+    CHECK(to_no_part(sleet_run(part, state, log, 0, SHORT, out, room), state));
+    CHECK(to_no_part(sleet_judge(part, state, log, sizeof log, SHORT, out, room).answer, state));
+    CHECK(to_no_part(sleet_transfer(part, state, log, sizeof log, SHORT, out, room), state));
+    CHECK(to_no_part(sleet_shifts(part, state, log, sizeof log, SHORT, out, room), state));
+    CHECK(to_no_part(sleet_select(part, state, SHORT), state));
+    CHECK(to_no_part(sleet_shift(part, state, 0xFF, SHORT, out, room), state));
+    CHECK(to_no_part(sleet_deselect(part, state, SHORT), state));
+    CHECK(to_no_part(sleet_work(part, state, UINT64_MAX, SHORT), state));
+    CHECK(to_no_part(sleet_level(part, state, 0, SHORT), state));
+    CHECK(to_no_part(sleet_level(part, state, 2, SHORT), state));
+    CHECK(to_no_part(sleet_power(part, state, SHORT), state));
+    CHECK(sleet_blank(part, SHORT) == SLEET_BAD_PART);
+#undef SHORT
+    peeked = sleet_peek(part, state, cache, sizeof cache - cut);
+    CHECK(peeked.refusal == SLEET_BAD_PART && peeked.byte == 0xFF);
+    CHECK(sleet_units_left(part, state) == 0);
+}
+
+/* A stepping above 1 stands for no part, whatever the sizes are. */
+static void check_no_stepping(void)
+{
+    sleet_geometry part = sleet_bench();
+    sleet_state state = sleet_power_up();
+    sleet_state idle;
+    sleet_state unsound = at_work(200, 7, SIZE_MAX);
+    unsigned stepping;
+    uint8_t job;
+    size_t i;
+
+    erase_all();
+    idle = sleet_work(part, state, 20, MEMORY).state;
+    memset(cells, 0x11, sizeof cells);
+    memset(cache, 0x22, sizeof cache);
+    memset(counts, 0x33, sizeof counts);
+    for (stepping = 2; stepping <= 255; stepping++) {
+        part = sleet_bench();
+        part.stepping = (uint8_t)stepping;
+        CHECK(!sleet_geometry_sound(part));
+        CHECK(sleet_cells_length(part) == 0 && sleet_cache_length(part) == 0 && sleet_counts_length(part) == 0);
+        for (job = SLEET_IDLE; job <= 5; job++) {
+            CHECK(sleet_operation_length(part, job) == 0);
+        }
+        check_no_part(part, state, 0);
+        check_no_part(part, idle, 20);
+        check_no_part(part, unsound, 0);
+        check_no_part(part, unsound, 1);
+
+        /* States are judged as on a part of nothing, of the first stepping: no read, program or erase has a unit there. */
+        CHECK(sleet_state_sound(part, idle) && sleet_state_sound(part, at_work(SLEET_RESET, 0, 7)));
+        CHECK(!sleet_state_sound(part, state) && !sleet_state_sound(part, at_work(SLEET_PROGRAM, 0, 0)));
+        CHECK(!sleet_state_sound(part, at_work(SLEET_ERASE, 0, 0)) && !sleet_state_sound(part, at_work(SLEET_RESET, 0, 8)));
+        CHECK(!sleet_state_sound(part, unsound));
+        idle.a0 = 0xBC;
+        CHECK(sleet_state_sound(part, idle));
+        idle.a0 = 0xBE;
+        CHECK(!sleet_state_sound(part, idle));
+        idle.a0 = 0x38;
+
+        part.blocks = 0;
+        check_no_part(part, state, 0);
+    }
+    CHECK(filled(0x11, 0x22, 0x33));
+    for (i = 0; i < sizeof out; i++) {
+        CHECK(out[i] == 0xEE);
+    }
+}
+
 static void check_records(void)
 {
     static const uint8_t expected[10] = {0x01, 0x02, 0xA5, 0x03, 0x04, 0x34, 0x12, 0x05, 0x01, 0x06};
@@ -564,6 +759,8 @@ int main(void)
     check_resets();
     check_questions();
     check_blank();
+    check_steppings();
+    check_no_stepping();
     check_records();
     check_texts();
     return verdict();

@@ -5,7 +5,7 @@ use std::fmt;
 use std::os::unix::ffi::OsStrExt;
 use std::path::PathBuf;
 
-use sleetanvil::Geometry;
+use sleetanvil::{Geometry, Stepping};
 
 pub const HELP: &str = "\
 sleetanvil - replays bus logs on a proved model of a serial NAND flash, makes
@@ -22,6 +22,12 @@ usage:
 options of replay; a value may also be given as --part=NAME:
   --part NAME     the part: bench or fm25s005bi3; bench if neither this nor
                   an image names one
+  --stepping N    its stepping, 1 or 2; 1 if neither this nor an image names
+                  one. The second has CMP, bit 1 of A0h: with CMP 1 and a BP
+                  number from 1 to 6 the other blocks are the protected ones.
+                  This decides over an image: its device is then run on that
+                  stepping. A device whose CMP is 1 cannot be run on the first,
+                  but for --power-up, which clears CMP
   --image FILE    the device to begin with. The replay goes on where the log
                   ended whose device was saved. Without an image it begins at
                   power-up, all cells FFh and all page counts 0
@@ -50,7 +56,7 @@ options of replay; a value may also be given as --part=NAME:
 
 options of page; boot code sizes a part from this page:
   --part NAME     the part whose page is made: bench or fm25s005bi3; bench if
-                  not given
+                  not given. The page is the same for both steppings
   -o FILE         where to put the three copies of the page, 768 bytes; - is
   --out FILE      standard output
   --read FILE     the file to read three copies from; - is standard input. For
@@ -93,7 +99,8 @@ An image file holds, with numbers low byte first:
   4 bytes  version, 2
   16 bytes data and spare bytes per page, pages per block and blocks,
            4 bytes each
-  4 bytes  the two identity bytes, then two zeros
+  4 bytes  the two identity bytes, the stepping (0 is the first, 1 the second)
+           and a zero
   then     the cells, row by row, and the page counts, a byte per page
   24 bytes the state, as in `sleet_state` of sleetanvil.h: A0h, B0h, C0h, D0h,
            WP#, selected, count, first, second, third and job, a byte each; a
@@ -137,6 +144,7 @@ pub enum Command {
 #[derive(Debug)]
 pub struct Replay {
     pub part: Option<Part>,
+    pub stepping: Option<Stepping>,
     pub image: Option<PathBuf>,
     pub power_up: bool,
     pub save: Option<PathBuf>,
@@ -246,7 +254,7 @@ pub fn parse(mut args: impl Iterator<Item = OsString>) -> Result<Command, String
 
 fn parse_replay(mut args: impl Iterator<Item = OsString>) -> Result<Command, String> {
     let (mut part, mut image, mut save, mut bytes, mut log) = (None, None, None, None, None);
-    let (mut out, mut expect) = (None, None);
+    let (mut stepping, mut out, mut expect) = (None, None, None);
     let (mut trace, mut judge, mut power_up) = (false, false, false);
     let mut options_end = false;
     while let Some(arg) = args.next() {
@@ -266,6 +274,7 @@ fn parse_replay(mut args: impl Iterator<Item = OsString>) -> Result<Command, Str
             "--judge" => judge = true,
             "--power-up" => power_up = true,
             "--part" => set(&mut part, option, part_of(&value()?)?)?,
+            "--stepping" => set(&mut stepping, option, stepping_of(&value()?)?)?,
             "--image" => set(&mut image, option, value()?.into())?,
             "--save" => set(&mut save, option, value()?.into())?,
             "--out" => set(&mut out, option, value()?.into())?,
@@ -284,6 +293,7 @@ fn parse_replay(mut args: impl Iterator<Item = OsString>) -> Result<Command, Str
     }
     Ok(Command::Replay(Replay {
         part,
+        stepping,
         image,
         power_up,
         save,
@@ -401,6 +411,17 @@ fn part_of(name: &OsString) -> Result<Part, String> {
                 name.to_string_lossy()
             )
         })
+}
+
+fn stepping_of(number: &OsString) -> Result<Stepping, String> {
+    match number.to_str() {
+        Some("1") => Ok(Stepping::First),
+        Some("2") => Ok(Stepping::Second),
+        _ => Err(format!(
+            "no such stepping: {}; there are 1 and 2",
+            number.to_string_lossy()
+        )),
+    }
 }
 
 fn number_of(text: &OsString) -> Result<usize, String> {

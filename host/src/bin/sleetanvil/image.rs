@@ -4,7 +4,7 @@ use std::fs;
 use std::io::{self, Write};
 use std::path::Path;
 
-use sleetanvil::{Device, Geometry, State};
+use sleetanvil::{Device, Geometry, Refusal, State, Stepping};
 
 use crate::args::Part;
 use crate::save::Target;
@@ -16,6 +16,9 @@ const OLD: u32 = 1;
 const VERSION: u32 = 2;
 const HEADER: usize = 32;
 const STATE: usize = 24;
+/// What there is to say of a state that the second stepping alone has.
+const WITH_CMP: &str = ": CMP, bit 1 of A0h, is 1, and the first stepping has no CMP; give \
+    --stepping 2, or --power-up, which clears it";
 
 /// What a replay begins with.
 pub struct Image {
@@ -42,14 +45,30 @@ impl Image {
         Image { now: None, ..self }
     }
 
+    /// The same state and memory on a part of another stepping.
+    pub fn with_stepping(self, stepping: Stepping) -> Self {
+        Image {
+            geometry: self.geometry.with_stepping(stepping),
+            ..self
+        }
+    }
+
     /// The device of this image.
     pub fn device(self) -> Result<Device, String> {
         let (geometry, cells, counts) = (self.geometry, self.cells, self.counts);
+        let state = self.now.as_ref().map(|(state, _)| *state);
         let device = match self.now {
             None => Device::power_up_with(geometry, cells, counts),
             Some((state, cache)) => Device::from_parts(geometry, state, cells, cache, counts),
         };
-        device.map_err(|refusal| format!("no replay can begin with it: {refusal}"))
+        device.map_err(|refusal| {
+            let second = geometry.with_stepping(Stepping::Second);
+            let hint = match (refusal, state) {
+                (Refusal::BadState, Some(state)) if state.is_sound(&second) => WITH_CMP,
+                _ => "",
+            };
+            format!("no replay can begin with it: {refusal}{hint}")
+        })
     }
 
     /// Load an image file, which has to be of the part that is wanted, if one is.
@@ -65,7 +84,7 @@ impl Image {
         let (header, rest) = bytes
             .split_at_checked(HEADER)
             .ok_or("the image ends inside its head")?;
-        let (part, version) = part_of_header(header)?;
+        let (part, stepping, version) = part_of_header(header)?;
         if let Some(wanted) = wanted.filter(|&wanted| wanted != part) {
             return Err(format!(
                 "the image is of part {}, not {}",
@@ -73,7 +92,7 @@ impl Image {
                 wanted.name()
             ));
         }
-        let geometry = part.geometry();
+        let geometry = part.geometry().with_stepping(stepping);
         let kept = geometry.cells_len() + geometry.counts_len();
         let now = match version {
             OLD => 0,
@@ -128,21 +147,25 @@ fn header(geometry: &Geometry, version: u32) -> [u8; HEADER] {
         place.copy_from_slice(&number.to_le_bytes());
     }
     header[28..30].copy_from_slice(&geometry.identity);
+    header[30] = geometry.stepping as u8;
     header
 }
 
-/// The named part whose header this is, and the version.
-fn part_of_header(bytes: &[u8]) -> Result<(Part, u32), String> {
+/// The named part whose header this is, its stepping, and the version.
+fn part_of_header(bytes: &[u8]) -> Result<(Part, Stepping, u32), String> {
     let version = u32::from_le_bytes([bytes[8], bytes[9], bytes[10], bytes[11]]);
     if ![OLD, VERSION].contains(&version) {
         return Err(format!(
             "the image is of version {version}, and only {OLD} and {VERSION} are known"
         ));
     }
+    let steppings = [Stepping::First, Stepping::Second];
     Part::ALL
         .into_iter()
-        .find(|part| header(&part.geometry(), version) == bytes)
-        .map(|part| (part, version))
+        .flat_map(|part| steppings.map(|stepping| (part, stepping, version)))
+        .find(|(part, stepping, version)| {
+            header(&part.geometry().with_stepping(*stepping), *version) == bytes
+        })
         .ok_or_else(|| "the image is of no part that is known here".into())
 }
 
@@ -198,17 +221,21 @@ fn decode_state(bytes: &[u8; STATE]) -> Result<State, String> {
 
 #[cfg(test)]
 mod tests {
-    use sleetanvil::{Device, Geometry};
+    use sleetanvil::{Device, Geometry, Stepping};
 
     use super::{write, Image};
     use crate::support::generate::Generator;
 
-    /// Devices in random sound states come back as they were.
+    /// Devices in random sound states, of both steppings, come back as they were.
     #[test]
     fn a_device_comes_back() {
         for number in 0..2_000 {
             let mut generator = Generator::new(0x1A6E, number);
-            let geometry = Geometry::bench();
+            let stepping = match number % 2 {
+                0 => Stepping::First,
+                _ => Stepping::Second,
+            };
+            let geometry = Geometry::bench().with_stepping(stepping);
             let state = generator.sound_state(&geometry);
             let mut fill = |length| (0..length).map(|_| generator.rng.byte()).collect();
             let (cells, cache, counts) = (fill(640), fill(20), fill(32));

@@ -2,20 +2,25 @@
 
 use std::ops::Range;
 
-use sleetanvil::Geometry;
+use sleetanvil::{Geometry, Stepping};
 
 /// The blocks that a value of A0h protects: with b the BP number, none for b = 0, otherwise
-/// N / 2^(7-b) of them, rounded down; the highest numbered, or the lowest with INV.
+/// N / 2^(7-b) of them, rounded down; the highest numbered, or the lowest with INV. With CMP, which
+/// the second stepping has, and b from 1 to 6 they are the others.
 fn protected(geometry: &Geometry, a0: u8) -> Range<u32> {
     let n = geometry.blocks;
-    let count = match u32::from(a0 >> 3 & 7) {
+    let b = u32::from(a0 >> 3 & 7);
+    let count = match b {
         0 => 0,
         b => n / 2u32.pow(7 - b),
     };
-    if a0 & 0x04 == 0 {
-        n - count..n
-    } else {
-        0..count
+    let inv = a0 & 0x04 != 0;
+    let cmp = a0 & 0x02 != 0 && geometry.stepping == Stepping::Second;
+    match (inv, cmp && (1..=6).contains(&b)) {
+        (false, false) => n - count..n,
+        (true, false) => 0..count,
+        (false, true) => 0..n - count,
+        (true, true) => count..n,
     }
 }
 
@@ -34,9 +39,11 @@ pub fn words(geometry: &Geometry, a0: u8) -> String {
 mod tests {
     use std::ops::Range;
 
-    use sleetanvil::{Device, Geometry};
+    use sleetanvil::{Device, Geometry, Stepping};
 
     use super::{protected, words};
+
+    const BOTH: [Stepping; 2] = [Stepping::First, Stepping::Second];
 
     /// A part of so many blocks, each of one page of one byte.
     fn part(blocks: u32) -> Geometry {
@@ -75,8 +82,11 @@ mod tests {
         let many = [
             63, 64, 65, 127, 128, 129, 511, 512, 513, 1_000, 65_535, 65_536,
         ];
-        for blocks in (1..=32).chain(many) {
-            let geometry = part(blocks);
+        let parts = (1..=32).chain(many).map(part);
+        for geometry in parts.flat_map(|part| BOTH.map(|stepping| part.with_stepping(stepping))) {
+            let Geometry {
+                blocks, stepping, ..
+            } = geometry;
             let mut device = Device::power_up(geometry).expect("a sound part");
             device.work(1);
             for a0 in 0..=0xFF {
@@ -87,7 +97,7 @@ mod tests {
                     assert_eq!(
                         fails,
                         told.contains(&block),
-                        "block {block} of {blocks}, A0h {a0:02X}h"
+                        "block {block} of {blocks}, A0h {a0:02X}h, {stepping:?}"
                     );
                 }
             }
@@ -97,18 +107,33 @@ mod tests {
     #[test]
     fn in_words() {
         let bench = Geometry::bench();
-        for (a0, text) in [
-            (0x00, "no block protected"),
-            (0x18, "no block protected"),
-            (0x20, "block 7 protected"),
-            (0x24, "block 0 protected"),
-            (0x30, "blocks 4 to 7 protected"),
-            (0x34, "blocks 0 to 3 protected"),
-            (0xB8, "all 8 blocks protected"),
-            (0x3C, "all 8 blocks protected"),
+        for (a0, first, second) in [
+            (0x00, "no block protected", "no block protected"),
+            (0x02, "no block protected", "no block protected"),
+            (0x06, "no block protected", "no block protected"),
+            (0x18, "no block protected", "no block protected"),
+            (0x1A, "no block protected", "all 8 blocks protected"),
+            (0x1E, "no block protected", "all 8 blocks protected"),
+            (0x20, "block 7 protected", "block 7 protected"),
+            (0x22, "block 7 protected", "blocks 0 to 6 protected"),
+            (0x24, "block 0 protected", "block 0 protected"),
+            (0x26, "block 0 protected", "blocks 1 to 7 protected"),
+            (0x30, "blocks 4 to 7 protected", "blocks 4 to 7 protected"),
+            (0x32, "blocks 4 to 7 protected", "blocks 0 to 3 protected"),
+            (0x34, "blocks 0 to 3 protected", "blocks 0 to 3 protected"),
+            (0x36, "blocks 0 to 3 protected", "blocks 4 to 7 protected"),
+            (0xB8, "all 8 blocks protected", "all 8 blocks protected"),
+            (0x3A, "all 8 blocks protected", "all 8 blocks protected"),
+            (0x3E, "all 8 blocks protected", "all 8 blocks protected"),
         ] {
-            assert_eq!(words(&bench, a0), text, "A0h {a0:02X}h");
+            for (stepping, text) in BOTH.into_iter().zip([first, second]) {
+                let words = words(&bench.with_stepping(stepping), a0);
+                assert_eq!(words, text, "A0h {a0:02X}h, {stepping:?}");
+            }
         }
-        assert_eq!(words(&part(1), 0x38), "block 0 protected");
+        let one = part(1).with_stepping(Stepping::Second);
+        for a0 in [0x38, 0x0A, 0x36] {
+            assert_eq!(words(&one, a0), "block 0 protected", "A0h {a0:02X}h");
+        }
     }
 }

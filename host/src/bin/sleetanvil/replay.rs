@@ -145,10 +145,16 @@ fn apart(replay: &Replay) -> Result<(), String> {
 
 /// The device that the replay begins with.
 fn begin(replay: &Replay) -> Result<Device, String> {
+    let of_its_stepping = |image: Image| match replay.stepping {
+        Some(stepping) => image.with_stepping(stepping),
+        None => image,
+    };
     let Some(path) = &replay.image else {
-        return Image::erased(replay.part.unwrap_or_default().geometry()).device();
+        let image = Image::erased(replay.part.unwrap_or_default().geometry());
+        return of_its_stepping(image).device();
     };
     Image::load(path, replay.part)
+        .map(of_its_stepping)
         .and_then(|image| match replay.power_up {
             true => image.powered_up().device(),
             false => image.device(),
