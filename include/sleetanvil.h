@@ -131,7 +131,8 @@ enum { SLEET_FIRST = 0, SLEET_SECOND = 1 }; /* `stepping` */
  *
  * Version 2 of this header had no `stepping`: its byte lay behind the fields and may hold anything. A program of then is compiled anew, and
  * sets it where it fills a part field by field: SLEET_FIRST is the part as it was. A part from sleet_bench() or sleet_fm25s005bi3(), one
- * set to 0 by memset or = {0}, and one by braces that end with id1 is of the first stepping without a change.
+ * set to 0 by memset or = {0}, and one by braces that end with id1 (some compilers warn of the field that is left out) is of the first
+ * stepping without a change.
  */
 typedef struct sleet_geometry {
     uint32_t data;    /* D, data bytes per page */
