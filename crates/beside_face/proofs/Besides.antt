@@ -5,7 +5,8 @@ use lib.Dec.{eqb}
 use lib.ListN.{length}
 use Rattle.part.specs.Choice.{if_then_else_}
 use Rattle.part.specs.Part.{page, soundPart}
-use Rattle.face.specs.Face.{partOf, stateOf, noState, standIn, soundTold}
+use Rattle.part_numbers.specs.Numbers.{partOf}
+use Rattle.face.specs.Face.{stateOf, noState, standIn, soundTold}
 use Rattle.face.specs.declared.Told.{Told}
 use Rattle.face.specs.declared.Told.the-variants.{Good, Bad}
 use Rattle.face.proofs.ThereAndBack.{never-sound}

@@ -4,7 +4,7 @@ use mathlib.Core.Path.{ap, _∙_, sym}
 use Prim.Native.Nat.{ℕ}
 use denote.Ref.{now}
 use Rattle.part.specs.OneAnswer.{OneAnswer, OneEnd}
-use Rattle.face.specs.Records.{CPut}
+use Rattle.record_numbers.specs.Records.{CPut}
 use Rattle.texts.specs.Text.{CLaid}
 use Rattle.beside_face.specs.Beside.{CBlank}
 use Rattle.beside_face.proofs.sleet_version.Reads as sleet-version-reads

@@ -5,8 +5,9 @@ use lib.Dec.{eqb}
 use Rattle.part.specs.Choice.{if_then_else_}
 use Rattle.part.specs.declared.Geometry.{Geometry}
 use Rattle.array.specs.declared.Job.the-variants.{Read, Program, Erase, Restart}
-use Rattle.face.specs.Face.{partOf, row, stateOf, standIn}
-use Rattle.face.specs.declared.CGeometry.{CGeometry}
+use Rattle.part_numbers.specs.Numbers.{partOf}
+use Rattle.face.specs.Face.{row, stateOf, standIn}
+use Rattle.part_numbers.specs.declared.CGeometry.{CGeometry}
 use Rattle.face.specs.declared.CState.{CState}
 use Rattle.face.specs.declared.CPeek.{CPeek}
 use Rattle.face.specs.declared.Told.{Told}

@@ -7,8 +7,9 @@ use lib.Dec.{eqb}
 use lib.ListN.{length}
 use Rattle.part.specs.Choice.{if_then_else_}
 use Rattle.part.specs.Part.{page, soundPart}
-use Rattle.face.specs.Face.{partOf, stateOf, soundTold}
-use Rattle.face.specs.declared.CGeometry.{CGeometry}
+use Rattle.part_numbers.specs.Numbers.{partOf}
+use Rattle.face.specs.Face.{stateOf, soundTold}
+use Rattle.part_numbers.specs.declared.CGeometry.{CGeometry}
 use Rattle.face.specs.declared.CState.{CState}
 use Rattle.beside_face.specs.Beside.{peekedOf}
 

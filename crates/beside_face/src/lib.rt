@@ -3,23 +3,24 @@
 ghost use mathlib.Core.Path.{_≡_};
 ghost use Rattle.part.specs.Part.{soundPart, fm25s005bi3, bench};
 ghost use Rattle.device.specs.Step.{powerUp};
-ghost use Rattle.face.specs.Face.{partOf, facePart, cellsLength, cacheLength, countsLength, stateOf, faceOf, soundTold};
-ghost use Rattle.face.specs.Records.{foundOf, facePut, writtenOf};
+ghost use Rattle.part_numbers.specs.Numbers.{partOf, facePart, cellsLength, cacheLength, countsLength};
+ghost use Rattle.face.specs.Face.{stateOf, faceOf, soundTold};
+ghost use Rattle.record_numbers.specs.Records.{foundOf, facePut, writtenOf};
 ghost use Rattle.texts.specs.Text.{textOf, faceLaid, textLaid};
 ghost use Rattle.beside_face.specs.Beside.{version, peekedOf, facePeek, lengthAt, leftTold, faceBlank, blankedOf};
 use array::Job;
 use beside::Peeked;
 use device::State;
-use face::CFound;
-use face::CGeometry;
 use face::CPeek;
-use face::CRecord;
 use face::CState;
-use face::CWrote;
 use face::Told;
 use part::Bench;
 use part::Fm25s005bi3;
 use part::Row;
+use part_numbers::CGeometry;
+use record_numbers::CFound;
+use record_numbers::CRecord;
+use record_numbers::CWrote;
 
 // The version of the header that this library goes with.
 #[no_mangle]
@@ -34,7 +35,7 @@ pub extern "C" fn sleet_version() -> u32
 pub extern "C" fn sleet_fm25s005bi3() -> CGeometry
     ensures { λ r. ⌜ r ≡ facePart fm25s005bi3 ⌝ }
 {
-    face::face_part(Fm25s005bi3::geometry())
+    part_numbers::face_part(Fm25s005bi3::geometry())
 }
 
 // The bench part.
@@ -42,7 +43,7 @@ pub extern "C" fn sleet_fm25s005bi3() -> CGeometry
 pub extern "C" fn sleet_bench() -> CGeometry
     ensures { λ r. ⌜ r ≡ facePart bench ⌝ }
 {
-    face::face_part(Bench::geometry())
+    part_numbers::face_part(Bench::geometry())
 }
 
 // Whether a geometry is sound.
@@ -50,7 +51,7 @@ pub extern "C" fn sleet_bench() -> CGeometry
 pub extern "C" fn sleet_geometry_sound(part: CGeometry) -> bool
     ensures { λ r. ⌜ r ≡ soundPart (partOf part) ⌝ }
 {
-    face::part_of(part).sound()
+    part_numbers::part_of(part).sound()
 }
 
 // The length that cells must have.
@@ -58,7 +59,7 @@ pub extern "C" fn sleet_geometry_sound(part: CGeometry) -> bool
 pub extern "C" fn sleet_cells_length(part: CGeometry) -> usize
     ensures { λ r. ⌜ r ≡ cellsLength (partOf part) ⌝ }
 {
-    face::cells_length(part)
+    part_numbers::cells_length(part)
 }
 
 // The length that the cache register must have.
@@ -66,7 +67,7 @@ pub extern "C" fn sleet_cells_length(part: CGeometry) -> usize
 pub extern "C" fn sleet_cache_length(part: CGeometry) -> usize
     ensures { λ r. ⌜ r ≡ cacheLength (partOf part) ⌝ }
 {
-    face::cache_length(part)
+    part_numbers::cache_length(part)
 }
 
 // The length that page counts must have.
@@ -74,7 +75,7 @@ pub extern "C" fn sleet_cache_length(part: CGeometry) -> usize
 pub extern "C" fn sleet_counts_length(part: CGeometry) -> usize
     ensures { λ r. ⌜ r ≡ countsLength (partOf part) ⌝ }
 {
-    face::counts_length(part)
+    part_numbers::counts_length(part)
 }
 
 // The power-up state.
@@ -98,7 +99,7 @@ pub extern "C" fn sleet_state_sound(part: CGeometry, state: CState) -> bool
 pub extern "C" fn sleet_operation_length(part: CGeometry, job: u8) -> usize
     ensures { λ r. ⌜ r ≡ lengthAt (partOf part) job ⌝ }
 {
-    let g = face::part_of(part);
+    let g = part_numbers::part_of(part);
     match job {
         1 => beside::operation_length(g, Job::Read(Row(0))),
         2 => beside::operation_length(g, Job::Program(Row(0))),
@@ -113,7 +114,7 @@ pub extern "C" fn sleet_operation_length(part: CGeometry, job: u8) -> usize
 pub extern "C" fn sleet_units_left(part: CGeometry, state: CState) -> usize
     ensures { λ r. ⌜ r ≡ leftTold (partOf part) (stateOf state) ⌝ }
 {
-    let g = face::part_of(part);
+    let g = part_numbers::part_of(part);
     match face::state_of(state) {
         Told::Good(s) => beside::units_left(g, s),
         Told::Bad => 0,
@@ -137,7 +138,7 @@ pub extern "C" fn sleet_peek(part: CGeometry, state: CState, cache: &[u8]) -> CP
     ensures { λ r. ⌜ r ≡ peekedOf part state (now (cache .entry)) ⌝ }
 {
     let x = face::state_of(state);
-    let g = face::part_of(part);
+    let g = part_numbers::part_of(part);
     peek_of(beside::peek(g, face::stand_in(x), cache))
 }
 
@@ -153,7 +154,7 @@ pub extern "C" fn sleet_blank(
         ⌜ faceBlank r (now (cells .exit)) (now (cache .exit)) (now (counts .exit))
         ≡ blankedOf part (now (cells .entry)) (now (cache .entry)) (now (counts .entry)) ⌝ }
 {
-    let g = face::part_of(part);
+    let g = part_numbers::part_of(part);
     refusals::number_of(beside::blank(g, cells, cache, counts))
 }
 
@@ -162,7 +163,7 @@ pub extern "C" fn sleet_blank(
 pub extern "C" fn sleet_next(log: &[u8], place: usize) -> CFound
     ensures { λ r. ⌜ r ≡ foundOf (now (log .entry)) place ⌝ }
 {
-    face::records::found_at(log, place)
+    record_numbers::found_at(log, place)
 }
 
 // One record written at a place of a log.
@@ -170,7 +171,7 @@ pub extern "C" fn sleet_next(log: &[u8], place: usize) -> CFound
 pub extern "C" fn sleet_write(entry: CRecord, log: &mut [u8], place: usize) -> CWrote
     ensures { λ r. ⌜ facePut r (now (log .exit)) ≡ writtenOf entry (now (log .entry)) place ⌝ }
 {
-    face::records::write_entry(entry, log, place)
+    record_numbers::write_entry(entry, log, place)
 }
 
 // What a number of refusal means.

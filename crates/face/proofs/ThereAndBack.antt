@@ -1,56 +1,26 @@
--- A part, a state and a record and their numbers go there and back; and what stands in for no part or for no state is not sound.
+-- A state and its numbers go there and back; and what stands in for no state is never sound.
 use mathlib.Core.Bool.{Bool, true, false, cond, _&&_}
-use mathlib.Core.Path.{_≡_, refl, sym, ap}
-use Prim.Native.Nat.{ℕ, zero, suc, _≤_}
-use native.Mathlib.Nat.{not-suc-le-zero, le-of-suc-le-suc}
+use mathlib.Core.Path.{_≡_, refl, sym}
+use Prim.Native.Nat.{ℕ, _≤_}
 use native.Mathlib.Omega.{arith}
 use lib.Dec.{eqb, leb}
-use borrow.Author.Tests.{eqb-true, eqb-false, leb-true, le-leb, lt-leb}
-use Rattle.part.specs.Part.{soundPart, ofStepping}
-use Rattle.part.specs.declared.Stepping.{Stepping}
-use Rattle.part.specs.declared.Stepping.the-variants.{First, Second}
+use borrow.Author.Tests.{eqb-true, eqb-false, leb-true}
 use Rattle.array.specs.declared.Job.the-variants.{Read, Program, Erase, Restart}
 use Rattle.array.specs.declared.Work.{Work}
 use Rattle.array.specs.declared.Work.the-variants.{Idle, Busy}
-use Rattle.buslog.specs.declared.Record.the-variants as record-of
 use Rattle.transfer.specs.Transfer.{byteOf}
 use Rattle.transfer.specs.declared.Instruction.{Instruction}
 use Rattle.transfer.specs.declared.Instruction.the-variants.{Ignored, WriteEnable, WriteDisable, GetFeature, SetFeature, ReadId, PageRead, ReadCache, Load, LoadRandom, Execute, BlockErase, Reset}
 use Rattle.device.specs.Machine.{workIn}
 use Rattle.device.specs.Sound.{soundState}
 use Rattle.device.specs.declared.State.{State}
-use Rattle.face.specs.Face.{steppingAt, steppingNumber, partOf, facePart, instructionAt, row, workAt, stateAs, toldCode, stateOf, flag, faced, facedWork, faceOf}
-use Rattle.face.specs.Promises.{PartBack, FacePartBack, NoSuchStepping, StateBack, FaceBack, RecordBack, NeverSound}
-use Rattle.face.specs.declared.CGeometry.{CGeometry}
+use Rattle.face.specs.Face.{instructionAt, row, workAt, stateAs, toldCode, stateOf, flag, faced, facedWork, faceOf}
+use Rattle.face.specs.Promises.{StateBack, FaceBack, NeverSound}
 use Rattle.face.specs.declared.Code.{Code}
 use Rattle.face.specs.declared.Code.the-variants.{Known, Unknown}
 use Rattle.face.specs.declared.Doing.{Doing}
 use Rattle.face.specs.declared.Doing.the-variants.{Going, Nowhere}
 use Rattle.face.specs.declared.Told.the-variants.{Good, Bad}
-
--- ---- the numbers of a part stand for that part
-
-pub part-back : PartBack
-part-back g = go (g .stepping)
-  where
-    go : (st : Stepping) → partOf (facePart (ofStepping st g)) ≡ ofStepping st g
-    go First = refl
-    go Second = refl
-
-pub face-part-back : FacePartBack
-face-part-back c h = rw (le-leb (c .stepping) 1 h) (ap (λ (k : ℕ). numbered k) (go (c .stepping) h))
-  where
-    numbered : ℕ → CGeometry
-    numbered k = record { main = c .main; spare = c .spare; pages = c .pages; blocks = c .blocks; id0 = c .id0; id1 = c .id1; stepping = k }
-
-    go : (k : ℕ) → k ≤ 1 → steppingNumber (steppingAt k) ≡ k
-    go zero i = refl
-    go (suc zero) i = refl
-    go (suc (suc k)) i = absurd (not-suc-le-zero (le-of-suc-le-suc i))
-
-pub no-such-stepping : NoSuchStepping
-unfolding soundPart
-no-such-stepping c h = rw (lt-leb (c .stepping) 1 h)
 
 -- ---- the numbers of a state stand for that state
 
@@ -160,16 +130,6 @@ face-back c s = go (instructionAt (c .instruction)) refl (workAt (c .job) (c .ro
     go (Known i) ei (Going w) ew h = good i w (leb (c .wp) 1) (leb (c .selected) 1) ei ew refl refl h
     go (Known i) ei Nowhere ew h = never (λ h. cc) h
     go Unknown ei d ew h = never (λ h. cc) h
-
--- ---- records
-
-pub record-back : RecordBack
-record-back record-of.Select = refl
-record-back (record-of.Shift b) = refl
-record-back record-of.Deselect = refl
-record-back (record-of.Units n) = refl
-record-back (record-of.Level v) = refl
-record-back record-of.Power = refl
 
 -- ---- the stand-in
 

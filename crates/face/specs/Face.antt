@@ -1,12 +1,9 @@
--- The part and the device state in plain numbers, as C has them: what each stands for, and the numbers of a state.
+-- The device state in plain numbers, as C has them: what they stand for, and the numbers of a state.
 use mathlib.Core.Bool.{Bool, false, _&&_}
-use Prim.Native.Nat.{ℕ, _*_}
+use Prim.Native.Nat.{ℕ}
 use lib.Dec.{eqb, leb}
 use Rattle.part.specs.Choice.{if_then_else_}
-use Rattle.part.specs.Part.{page, rows, soundPart, noPart}
 use Rattle.part.specs.declared.Geometry.{Geometry}
-use Rattle.part.specs.declared.Stepping.{Stepping}
-use Rattle.part.specs.declared.Stepping.the-variants.{First, Second}
 use Rattle.part.specs.declared.Row.{Row}
 use Rattle.array.specs.declared.Job.{Job}
 use Rattle.array.specs.declared.Job.the-variants.{Read, Program, Erase, Restart}
@@ -17,7 +14,6 @@ use Rattle.transfer.specs.declared.Instruction.{Instruction}
 use Rattle.transfer.specs.declared.Instruction.the-variants.{Ignored, WriteEnable, WriteDisable, GetFeature, SetFeature, ReadId, PageRead, ReadCache, Load, LoadRandom, Execute, BlockErase, Reset}
 use Rattle.device.specs.Sound.{soundState}
 use Rattle.device.specs.declared.State.{State}
-use Rattle.face.specs.declared.CGeometry.{CGeometry}
 use Rattle.face.specs.declared.CState.{CState}
 use Rattle.face.specs.declared.Code.{Code}
 use Rattle.face.specs.declared.Code.the-variants.{Known, Unknown}
@@ -25,49 +21,6 @@ use Rattle.face.specs.declared.Doing.{Doing}
 use Rattle.face.specs.declared.Doing.the-variants.{Going, Nowhere}
 use Rattle.face.specs.declared.Told.{Told}
 use Rattle.face.specs.declared.Told.the-variants.{Good, Bad}
-
--- ---- the part
-
--- the stepping of a number: 0 first, 1 second
-abbrev pub steppingAt : ℕ → Stepping
-steppingAt k = if eqb k 0 then First else Second
-
--- the geometry that the numbers stand for; a stepping above 1 is that of no part
-abbrev pub partOf : CGeometry → Geometry
-partOf g =
-    if leb (g .stepping) 1
-    then record { main = g .main; spare = g .spare; pages = g .pages; blocks = g .blocks; id0 = g .id0; id1 = g .id1; stepping = steppingAt (g .stepping) }
-    else noPart
-
--- the number of a stepping
-abbrev pub steppingNumber : Stepping → ℕ
-steppingNumber First = 0
-steppingNumber Second = 1
-
--- the numbers of a geometry
-abbrev pub facePart : Geometry → CGeometry
-facePart g =
-    record {
-      main = g .main;
-      spare = g .spare;
-      pages = g .pages;
-      blocks = g .blocks;
-      id0 = g .id0;
-      id1 = g .id1;
-      stepping = steppingNumber (g .stepping);
-    }
-
--- the lengths that the lent memory must have, 0 for an unsound part: P times K times N cells
-abbrev pub cellsLength : Geometry → ℕ
-cellsLength g = if soundPart g then rows g * page g else 0
-
--- P bytes of cache register
-abbrev pub cacheLength : Geometry → ℕ
-cacheLength g = if soundPart g then page g else 0
-
--- K times N page counts
-abbrev pub countsLength : Geometry → ℕ
-countsLength g = if soundPart g then rows g else 0
 
 -- ---- what a state's numbers stand for
 

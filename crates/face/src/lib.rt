@@ -1,35 +1,18 @@
-// The numbers of C: the structs of include/sleetanvil.h, and what the numbers of a part and of a device state stand for.
+// A device state in the numbers of C: the structs of include/sleetanvil.h around it, and what its numbers stand for.
 ghost use mathlib.Core.Path.{_≡_};
-ghost use Rattle.part.specs.Part.{noPart};
-ghost use Rattle.face.specs.Face.{steppingAt, steppingNumber, partOf, facePart, cellsLength, cacheLength, countsLength, instructionAt, workAt, stateAs, stateOf, flag, faced, facedJob, faceOf, soundTold, noState, standIn, handedBack};
-
-pub mod records;
-
+ghost use Rattle.part_numbers.specs.Numbers.{partOf};
+ghost use Rattle.face.specs.Face.{instructionAt, workAt, stateAs, stateOf, flag, faced, facedJob, faceOf, soundTold, noState, standIn, handedBack};
 use array::Job;
 use array::Work;
-use buslog::Record;
 use device::State;
 use part::Column;
-use part::Geometry;
 use part::Row;
-use part::Stepping;
+use part_numbers::CGeometry;
 use registers::Pins;
 use registers::Registers;
 use transfer::Bus;
 use transfer::Instruction;
 use transfer::Transfer;
-
-// The part. (In C its first field is `data`: a name that the proofs' language keeps for itself.)
-#[repr(C)]
-pub struct CGeometry {
-    pub main: u32,
-    pub spare: u32,
-    pub pages: u32,
-    pub blocks: u32,
-    pub id0: u8,
-    pub id1: u8,
-    pub stepping: u8,
-}
 
 // The device state.
 #[repr(C)]
@@ -75,29 +58,6 @@ pub struct CPeek {
     pub byte: u8,
 }
 
-// A record of a log.
-#[repr(C)]
-pub struct CRecord {
-    pub kind: u8,
-    pub byte: u8,
-    pub units: u16,
-}
-
-// What stands at a place of a log.
-#[repr(C)]
-pub struct CFound {
-    pub entry: CRecord,
-    pub refusal: u8,
-    pub place: usize,
-}
-
-// What the writer did.
-#[repr(C)]
-pub struct CWrote {
-    pub refusal: u8,
-    pub place: usize,
-}
-
 // The instruction of a code, if it has one.
 pub enum Code {
     Known(Instruction),
@@ -114,113 +74,6 @@ pub enum Doing {
 pub enum Told {
     Good(State),
     Bad,
-}
-
-// The record that numbers stand for, if there is one.
-pub enum Entry {
-    Event(Record),
-    Stranger,
-}
-
-// The stepping of a number.
-fn stepping_at(k: u8) -> Stepping
-    ensures { λ r. ⌜ r ≡ steppingAt k ⌝ }
-{
-    if k == 0 { Stepping::First } else { Stepping::Second }
-}
-
-// The number of a stepping.
-fn stepping_number(stepping: Stepping) -> u8
-    ensures { λ r. ⌜ r ≡ steppingNumber stepping ⌝ }
-{
-    match stepping {
-        Stepping::First => 0,
-        Stepping::Second => 1,
-    }
-}
-
-// A part of nothing, which is not sound.
-fn no_part() -> Geometry
-    ensures { λ r. ⌜ r ≡ noPart ⌝ }
-{
-    Geometry {
-        main: 0,
-        spare: 0,
-        pages: 0,
-        blocks: 0,
-        id0: 0,
-        id1: 0,
-        stepping: Stepping::First,
-    }
-}
-
-// The geometry of some numbers; that of no part where there is no such stepping.
-pub fn part_of(g: CGeometry) -> Geometry
-    ensures { λ r. ⌜ r ≡ partOf g ⌝ }
-{
-    if 1 < g.stepping {
-        return no_part();
-    }
-    let stepping = stepping_at(g.stepping);
-    Geometry {
-        main: g.main,
-        spare: g.spare,
-        pages: g.pages,
-        blocks: g.blocks,
-        id0: g.id0,
-        id1: g.id1,
-        stepping,
-    }
-}
-
-// The numbers of a geometry.
-pub fn face_part(g: Geometry) -> CGeometry
-    ensures { λ r. ⌜ r ≡ facePart g ⌝ }
-{
-    let s = g.stepping;
-    let stepping = stepping_number(s);
-    CGeometry {
-        main: g.main,
-        spare: g.spare,
-        pages: g.pages,
-        blocks: g.blocks,
-        id0: g.id0,
-        id1: g.id1,
-        stepping,
-    }
-}
-
-// The length that cells must have.
-pub fn cells_length(part: CGeometry) -> usize
-    ensures { λ r. ⌜ r ≡ cellsLength (partOf part) ⌝ }
-{
-    let g = part_of(part);
-    if !g.sound() {
-        return 0;
-    }
-    g.rows() * g.page()
-}
-
-// The length that the cache register must have.
-pub fn cache_length(part: CGeometry) -> usize
-    ensures { λ r. ⌜ r ≡ cacheLength (partOf part) ⌝ }
-{
-    let g = part_of(part);
-    if !g.sound() {
-        return 0;
-    }
-    g.page()
-}
-
-// The length that page counts must have.
-pub fn counts_length(part: CGeometry) -> usize
-    ensures { λ r. ⌜ r ≡ countsLength (partOf part) ⌝ }
-{
-    let g = part_of(part);
-    if !g.sound() {
-        return 0;
-    }
-    g.rows()
 }
 
 // The instruction of a code.
@@ -382,7 +235,7 @@ pub fn face_of(s: State) -> CState
 pub fn state_sound(part: CGeometry, state: CState) -> bool
     ensures { λ r. ⌜ r ≡ soundTold (partOf part) (stateOf state) ⌝ }
 {
-    let g = part_of(part);
+    let g = part_numbers::part_of(part);
     match state_of(state) {
         Told::Good(s) => s.sound(g),
         Told::Bad => false,

@@ -1,12 +1,12 @@
 // The parameter page in C: the functions of include/sleetanvil.h, "the parameter page". Plain numbers outside; every content is answered.
 ghost use mathlib.Core.Path.{_≡_};
-ghost use Rattle.face.specs.Face.{partOf};
+ghost use Rattle.part_numbers.specs.Numbers.{partOf};
 ghost use Rattle.crc.specs.Crc.{crcOf};
 ghost use Rattle.sheet.specs.Page.{makeOf};
 ghost use Rattle.copies.specs.Copies.{figures, readOf};
 ghost use Rattle.page_face.specs.Face.{faceMade, numbered, faceSizes};
 use copies::Found;
-use face::CGeometry;
+use part_numbers::CGeometry;
 
 // The four numbers of a page, the copy that they are from, and the refusal. (In C the first field is `data`.)
 #[repr(C)]
@@ -56,7 +56,7 @@ fn sizes_of(found: Found) -> CSizes
 pub extern "C" fn sleet_page_make(part: CGeometry, memory: &mut [u8]) -> u8
     ensures { λ r. ⌜ faceMade r (now (memory .exit)) ≡ numbered (makeOf (partOf part) (now (memory .entry))) ⌝ }
 {
-    let g = face::part_of(part);
+    let g = part_numbers::part_of(part);
     let made = sheet::make(g, memory);
     sheet::made_number(made)
 }

@@ -11,7 +11,8 @@ use Rattle.buslog.specs.Read.{parse}
 use Rattle.buslog.specs.declared.Record.{Record}
 use Rattle.device.specs.Machine.{Machine, machine}
 use Rattle.device.specs.Work.{Array, unitwise}
-use Rattle.face.specs.Face.{partOf, stateOf, faceOf}
+use Rattle.part_numbers.specs.Numbers.{partOf}
+use Rattle.face.specs.Face.{stateOf, faceOf}
 use Rattle.face.specs.declared.Told.{Told}
 use Rattle.face.specs.declared.Told.the-variants.{Good, Bad}
 use Rattle.model.specs.Runs as model

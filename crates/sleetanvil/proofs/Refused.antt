@@ -10,12 +10,14 @@ use Rattle.part.specs.declared.Geometry.{Geometry}
 use Rattle.device.specs.Machine.{machine}
 use Rattle.device.specs.Work.{unitwise}
 use Rattle.device.specs.declared.State.{State}
-use Rattle.face.specs.Face.{partOf, stateOf, faceOf, noState, standIn, handedBack}
-use Rattle.face.specs.declared.CGeometry.{CGeometry}
+use Rattle.part_numbers.specs.Numbers.{partOf}
+use Rattle.face.specs.Face.{stateOf, faceOf, noState, standIn, handedBack}
+use Rattle.part_numbers.specs.declared.CGeometry.{CGeometry}
 use Rattle.face.specs.declared.CState.{CState}
 use Rattle.face.specs.declared.Told.{Told}
 use Rattle.face.specs.declared.Told.the-variants.{Good, Bad}
-use Rattle.face.proofs.ThereAndBack.{no-such-stepping, face-back, never-sound}
+use Rattle.part_numbers.proofs.ThereAndBack.{no-such-stepping}
+use Rattle.face.proofs.ThereAndBack.{face-back, never-sound}
 use Rattle.refusals.specs.Refusals.{numberOf, checkOf, passed}
 use Rattle.walk.specs.Turns.{nothing}
 use Rattle.model.specs.Runs as model

@@ -4,7 +4,8 @@ use mathlib.Core.Path.{_≡_, refl, sym, ap}
 use Rattle.buslog.specs.Log.{bytesOf}
 use Rattle.buslog.specs.declared.Record.the-variants.{Units}
 use Rattle.device.specs.Machine.{machine}
-use Rattle.face.specs.Face.{partOf, stateOf, faceOf}
+use Rattle.part_numbers.specs.Numbers.{partOf}
+use Rattle.face.specs.Face.{stateOf, faceOf}
 use Rattle.face.specs.declared.Told.{Told}
 use Rattle.face.specs.declared.Told.the-variants.{Good, Bad}
 use Rattle.model.specs.Runs.{Outcome, shown}

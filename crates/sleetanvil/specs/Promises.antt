@@ -11,8 +11,8 @@ use Rattle.part.specs.declared.Geometry.{Geometry}
 use Rattle.buslog.specs.Log.{bytesOf}
 use Rattle.buslog.specs.declared.Record.{Record}
 use Rattle.buslog.specs.declared.Record.the-variants.{Units}
-use Rattle.face.specs.Face.{partOf}
-use Rattle.face.specs.declared.CGeometry.{CGeometry}
+use Rattle.part_numbers.specs.Numbers.{partOf}
+use Rattle.part_numbers.specs.declared.CGeometry.{CGeometry}
 use Rattle.face.specs.declared.CState.{CState}
 use Rattle.walk.specs.Turns.{takes}
 use Rattle.sleetanvil.specs.Runs.{faceSeen, checkBad, faceNothing, faceRan, unheard, quietOf, workedOf}

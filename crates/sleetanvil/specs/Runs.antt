@@ -8,8 +8,9 @@ use Rattle.buslog.specs.Log.{written}
 use Rattle.buslog.specs.declared.Record.{Record}
 use Rattle.device.specs.Machine.{machine}
 use Rattle.device.specs.Work.{unitwise}
-use Rattle.face.specs.Face.{partOf, stateOf, faceOf, noState}
-use Rattle.face.specs.declared.CGeometry.{CGeometry}
+use Rattle.part_numbers.specs.Numbers.{partOf}
+use Rattle.face.specs.Face.{stateOf, faceOf, noState}
+use Rattle.part_numbers.specs.declared.CGeometry.{CGeometry}
 use Rattle.face.specs.declared.CState.{CState}
 use Rattle.face.specs.declared.CAnswer.{CAnswer}
 use Rattle.face.specs.declared.CJudged.{CJudged}

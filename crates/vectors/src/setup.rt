@@ -146,7 +146,11 @@ impl Setup {
     }
 
     fn stepping(self) -> Stepping {
-        if self.number(STEPPING) == 0 { Stepping::First } else { Stepping::Second }
+        if self.number(STEPPING) == 0 {
+            Stepping::First
+        } else {
+            Stepping::Second
+        }
     }
 
     fn registers(self) -> Registers {
