@@ -8,8 +8,9 @@ use lib.Dec.{ltb}
 use Rattle.part.specs.Protection.{protects}
 use Rattle.part.specs.declared.Geometry.{Geometry}
 use Rattle.registers.specs.Registers.{registerWritten, oip, oipSet, oipCleared, resetStatus}
-use Rattle.transfer.specs.Transfer.{instructionOf, heardAs, ends, selects, shiftedIn, cached}
-use Rattle.transfer.specs.declared.Instruction.the-variants.{Reset}
+use Rattle.codes.specs.Codes.{instructionOf, heardAs}
+use Rattle.transfer.specs.Transfer.{ends, selects, shiftedIn, cached}
+use Rattle.codes.specs.declared.Instruction.the-variants.{Reset}
 use Rattle.array.specs.Jobs.{written}
 use Rattle.array.specs.declared.Job.the-variants.{Restart}
 use Rattle.array.proofs.Stores.{restart-none}

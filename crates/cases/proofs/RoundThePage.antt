@@ -15,9 +15,11 @@ use Rattle.part.specs.declared.Geometry.{Geometry}
 use Rattle.part.proofs.Choice.{T-true, true-T, and-l, and-r}
 use Rattle.buslog.specs.declared.Record.the-variants.{Shift, Deselect}
 use Rattle.registers.specs.Registers.{oip}
-use Rattle.transfer.specs.Transfer.{byteOf, instructionOf, is, heard, next, nextRead, columnOf, selects, ends, withTransfer, shiftedIn, cached}
+use Rattle.codes.specs.Codes.{byteOf, instructionOf}
+use Rattle.columns.specs.Columns.{next, nextRead, columnOf}
+use Rattle.transfer.specs.Transfer.{is, heard, selects, ends, withTransfer, shiftedIn, cached}
 use Rattle.transfer.specs.declared.Bus.{Bus}
-use Rattle.transfer.specs.declared.Instruction.the-variants.{ReadCache}
+use Rattle.codes.specs.declared.Instruction.the-variants.{ReadCache}
 use Rattle.device.specs.Machine.{Machine, overBus}
 use Rattle.device.specs.Work.{Array}
 use Rattle.device.specs.Instructions.{shifts, answer, fed, replies, acted, deselects}

@@ -11,9 +11,10 @@ use Rattle.part.specs.Part.{bench, page, Sound}
 use Rattle.part.specs.declared.Geometry.{Geometry}
 use Rattle.part.specs.declared.Stepping.the-variants.{First}
 use Rattle.registers.specs.Registers.{oip}
-use Rattle.transfer.specs.Transfer.{is, ends, heard, columnOf, selects, withTransfer}
+use Rattle.columns.specs.Columns.{columnOf}
+use Rattle.transfer.specs.Transfer.{is, ends, heard, selects, withTransfer}
 use Rattle.transfer.specs.declared.Bus.{Bus}
-use Rattle.transfer.specs.declared.Instruction.the-variants.{ReadCache}
+use Rattle.codes.specs.declared.Instruction.the-variants.{ReadCache}
 use Rattle.device.specs.Machine.{Machine, machine, overBus}
 use Rattle.device.specs.Work.{Array}
 use Rattle.device.specs.Instructions.{fed, replies}

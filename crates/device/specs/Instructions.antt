@@ -6,8 +6,8 @@ use Rattle.part.specs.declared.Geometry.{Geometry}
 use Rattle.part.specs.declared.Row.{Row}
 use Rattle.registers.specs.Registers.{oip, wel, welSet, welCleared, requestCleared, eFailSet, pFailSet, resetStatus, registerWritten}
 use Rattle.transfer.specs.Transfer.{shiftedIn, cached, rowOf, ends, full}
-use Rattle.transfer.specs.declared.Instruction.{Instruction}
-use Rattle.transfer.specs.declared.Instruction.the-variants.{Ignored, WriteEnable, WriteDisable, GetFeature, SetFeature, ReadId, PageRead, ReadCache, Load, LoadRandom, Execute, BlockErase, Reset}
+use Rattle.codes.specs.declared.Instruction.{Instruction}
+use Rattle.codes.specs.declared.Instruction.the-variants.{Ignored, WriteEnable, WriteDisable, GetFeature, SetFeature, ReadId, PageRead, ReadCache, Load, LoadRandom, Execute, BlockErase, Reset}
 use Rattle.array.specs.Jobs.{withCache}
 use Rattle.array.specs.declared.Job.the-variants.{Read, Program, Erase, Restart}
 use Rattle.array.specs.declared.Work.the-variants.{Idle}

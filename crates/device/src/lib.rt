@@ -15,7 +15,7 @@ use part::Row;
 use registers::Pins;
 use registers::Registers;
 use transfer::Bus;
-use transfer::Instruction;
+use codes::Instruction;
 use transfer::Transfer;
 
 // The device state: it goes in whole and comes back whole with each event.

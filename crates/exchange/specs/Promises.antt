@@ -9,7 +9,8 @@ use Rattle.part.specs.declared.Geometry.{Geometry}
 use Rattle.buslog.specs.Log.{bytesOf, written, Bytes}
 use Rattle.buslog.specs.declared.Record.the-variants.{Select, Deselect}
 use Rattle.registers.specs.Registers.{oip}
-use Rattle.transfer.specs.Transfer.{columnOf, ends}
+use Rattle.columns.specs.Columns.{columnOf}
+use Rattle.transfer.specs.Transfer.{ends}
 use Rattle.device.specs.Machine.{Machine, overBus}
 use Rattle.device.specs.Work.{Array, unitwise}
 use Rattle.device.specs.Step.{step, run}

@@ -34,8 +34,8 @@ fn reads(g: Geometry, s: State, di: &[u8], cache: &[u8], out: &mut [u8]) -> Stat
     let mut c = s.bus.transfer.column;
     let mut i = 0;
     while i < di.len() {
-        out[i] = transfer::byte_at(cache, c);
-        c = transfer::next_read(page, c);
+        out[i] = columns::byte_at(cache, c);
+        c = columns::next_read(page, c);
         i += 1;
     }
     stream::at_column(c, s)
@@ -49,9 +49,9 @@ fn loads(g: Geometry, s: State, di: &[u8], cache: &mut [u8], out: &mut [u8]) -> 
     let mut c = s.bus.transfer.column;
     let mut i = 0;
     while i < di.len() {
-        transfer::store_at(cache, c, di[i]);
+        columns::store_at(cache, c, di[i]);
         out[i] = 0xFF;
-        c = transfer::next_column(c);
+        c = columns::next_column(c);
         i += 1;
     }
     stream::at_column(c, s)

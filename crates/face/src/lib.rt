@@ -11,7 +11,7 @@ use part_numbers::CGeometry;
 use registers::Pins;
 use registers::Registers;
 use transfer::Bus;
-use transfer::Instruction;
+use codes::Instruction;
 use transfer::Transfer;
 
 // The device state.
@@ -201,7 +201,7 @@ fn faced(s: State, job: u8, row: u16, units: usize) -> CState
         second: t.second,
         third: t.third,
         job: job,
-        instruction: transfer::byte_of(i),
+        instruction: codes::byte_of(i),
         column: column.0,
         row: row,
         units: units,

@@ -12,8 +12,8 @@ use Rattle.part.proofs.Choice.{cond-keep}
 use Rattle.registers.specs.Registers.{wel, welSet, welCleared, requestCleared, eFailSet, pFailSet, resetStatus, registerWritten}
 use Rattle.transfer.specs.Transfer.{rowOf, full}
 use Rattle.transfer.specs.declared.Transfer.{Transfer}
-use Rattle.transfer.specs.declared.Instruction.{Instruction}
-use Rattle.transfer.specs.declared.Instruction.the-variants.{Ignored, WriteEnable, WriteDisable, GetFeature, SetFeature, ReadId, PageRead, ReadCache, Load, LoadRandom, Execute, BlockErase, Reset}
+use Rattle.codes.specs.declared.Instruction.{Instruction}
+use Rattle.codes.specs.declared.Instruction.the-variants.{Ignored, WriteEnable, WriteDisable, GetFeature, SetFeature, ReadId, PageRead, ReadCache, Load, LoadRandom, Execute, BlockErase, Reset}
 use Rattle.array.specs.declared.Job.the-variants.{Read, Program, Erase, Restart}
 use Rattle.array.specs.declared.Work.the-variants.{Idle}
 use Rattle.soundness.specs.Soundness.{HighSound}

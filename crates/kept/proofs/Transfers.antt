@@ -10,10 +10,11 @@ use Rattle.part.specs.declared.Column.{Column}
 use Rattle.part.specs.declared.Geometry.{Geometry}
 use Rattle.part.proofs.Choice.{cond-keep}
 use Rattle.registers.specs.Registers.{oip}
-use Rattle.transfer.specs.Transfer.{noByte, byteOf, instructionOf, open?, heardAs, is, fresh, selects, columnBytes, columnOn, columnAfter, instructed, later, heard, shiftedIn}
+use Rattle.codes.specs.Codes.{noByte, byteOf, instructionOf, open?, heardAs}
+use Rattle.transfer.specs.Transfer.{is, fresh, selects, columnBytes, columnOn, columnAfter, instructed, later, heard, shiftedIn}
 use Rattle.transfer.specs.declared.Bus.{Bus}
 use Rattle.transfer.specs.declared.Transfer.{Transfer}
-use Rattle.transfer.specs.declared.Instruction.{Instruction}
+use Rattle.codes.specs.declared.Instruction.{Instruction}
 use Rattle.soundness.specs.Soundness.{letIn}
 use Rattle.kept.proofs.Tests.{some-T}
 

@@ -7,7 +7,8 @@ use Rattle.part.specs.Choice.{if_then_else_}
 use Rattle.part.specs.declared.Geometry.{Geometry}
 use Rattle.registers.specs.Registers.{register}
 use Rattle.registers.specs.declared.Registers.{Registers}
-use Rattle.transfer.specs.Transfer.{is, bodyHeard, cacheByte}
+use Rattle.columns.specs.Columns.{cacheByte}
+use Rattle.transfer.specs.Transfer.{is, bodyHeard}
 use Rattle.transfer.specs.declared.Bus.{Bus}
 
 -- from the byte that has k before it on

@@ -34,7 +34,7 @@ pub fn byte_out(g: Geometry, regs: Registers, bus: Bus, cache: &[u8]) -> u8
             return 0xFF;
         }
         let c = t.column;
-        return transfer::byte_at(cache, c);
+        return columns::byte_at(cache, c);
     }
     0xFF
 }

@@ -7,7 +7,8 @@ use lib.Dec.{leb, ltb, eqb}
 use Rattle.part.specs.declared.Geometry.{Geometry}
 use Rattle.registers.specs.Registers.{oip, a0Mask, b0Mask, d0Mask}
 use Rattle.registers.specs.declared.Registers.{Registers}
-use Rattle.transfer.specs.Transfer.{noByte, is}
+use Rattle.codes.specs.Codes.{noByte}
+use Rattle.transfer.specs.Transfer.{is}
 use Rattle.transfer.specs.declared.Transfer.{Transfer}
 use Rattle.array.specs.Jobs.{lengthOf, inside, Going}
 use Rattle.array.specs.declared.Job.{Job}

@@ -106,5 +106,5 @@ pub fn calm(c: u8, t: Transfer) -> bool
     if t.is(0xFF) {
         return true;
     }
-    t.is(transfer::NO_BYTE)
+    t.is(codes::NO_BYTE)
 }

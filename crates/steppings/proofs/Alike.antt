@@ -21,8 +21,8 @@ use Rattle.registers.specs.Registers.{locked, registerWritten}
 use Rattle.registers.specs.declared.Pins.{Pins}
 use Rattle.registers.specs.declared.Registers.{Registers}
 use Rattle.transfer.specs.Transfer.{shiftedIn, cached, full, ends, rowOf}
-use Rattle.transfer.specs.declared.Instruction.{Instruction}
-use Rattle.transfer.specs.declared.Instruction.the-variants.{Ignored, WriteEnable, WriteDisable, GetFeature, SetFeature, ReadId, PageRead, ReadCache, Load, LoadRandom, Execute, BlockErase, Reset}
+use Rattle.codes.specs.declared.Instruction.{Instruction}
+use Rattle.codes.specs.declared.Instruction.the-variants.{Ignored, WriteEnable, WriteDisable, GetFeature, SetFeature, ReadId, PageRead, ReadCache, Load, LoadRandom, Execute, BlockErase, Reset}
 use Rattle.array.specs.Jobs.{written}
 use Rattle.array.specs.declared.Job.the-variants.{Read, Program, Erase, Restart}
 use Rattle.array.specs.declared.Work.{Work}

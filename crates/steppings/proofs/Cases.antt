@@ -2,7 +2,8 @@
 use mathlib.Core.Path.{refl}
 use Rattle.part.specs.Protection.{protects}
 use Rattle.registers.specs.Registers.{registerWritten}
-use Rattle.transfer.specs.Transfer.{instructionOf, selects, shiftedIn, cached}
+use Rattle.codes.specs.Codes.{instructionOf}
+use Rattle.transfer.specs.Transfer.{selects, shiftedIn, cached}
 use Rattle.array.specs.Jobs.{written}
 use Rattle.requests.specs.Requests.{programFate, eraseFate}
 use Rattle.device.specs.Work.{unitOf, units, unitwise}

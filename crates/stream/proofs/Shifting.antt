@@ -11,9 +11,11 @@ use Rattle.part.specs.Part.{page}
 use Rattle.part.specs.declared.Column.{Column}
 use Rattle.part.specs.declared.Geometry.{Geometry}
 use Rattle.part.proofs.Choice.{T-true, true-T, and-l, and-r}
-use Rattle.transfer.specs.Transfer.{byteOf, is, next, nextRead, heard, shiftedIn, cacheByte, cached}
+use Rattle.codes.specs.Codes.{byteOf}
+use Rattle.columns.specs.Columns.{next, nextRead, cacheByte}
+use Rattle.transfer.specs.Transfer.{is, heard, shiftedIn, cached}
 use Rattle.transfer.specs.declared.Bus.{Bus}
-use Rattle.transfer.proofs.Bytes.{getD-any}
+use Rattle.columns.proofs.Bytes.{getD-any}
 use Rattle.device.specs.Machine.{Machine, onCache}
 use Rattle.device.specs.Instructions.{answer, shifts}
 use Rattle.device.specs.declared.State.{State}

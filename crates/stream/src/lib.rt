@@ -4,7 +4,8 @@ ghost use mathlib.Core.Bool.{true};
 ghost use mathlib.Core.Path.{_≡_};
 ghost use Prim.Native.Nat.{_/_, _≤_, _<_, min};
 ghost use lib.ListN.{length};
-ghost use Rattle.transfer.specs.Transfer.{is, nextRead};
+ghost use Rattle.columns.specs.Columns.{nextRead};
+ghost use Rattle.transfer.specs.Transfer.{is};
 ghost use Rattle.device.specs.Machine.{Machine, onCache};
 ghost use Rattle.stream.specs.Streams.{Past, InPage, inPage, loading, streams, atColumn, Shifted, Follows, noShift, Streamed};
 use device::State;
@@ -147,8 +148,8 @@ fn reads_on(
                 count: i,
             };
         }
-        out[written + i] = transfer::byte_at(cache, c);
-        c = transfer::next_read(page, c);
+        out[written + i] = columns::byte_at(cache, c);
+        c = columns::next_read(page, c);
         i += 1;
     }
     Stream {
@@ -201,9 +202,9 @@ fn loads(
                 count: i,
             };
         }
-        transfer::store_at(cache, c, log[place + 1]);
+        columns::store_at(cache, c, log[place + 1]);
         out[written + i] = 0xFF;
-        c = transfer::next_column(c);
+        c = columns::next_column(c);
         i += 1;
     }
     Stream {

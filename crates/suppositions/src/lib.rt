@@ -48,10 +48,10 @@ fn unknown(b: u8) -> bool
     ensures { λ r. ⌜ r ≡ unknown b ⌝ }
 {
     let t = Transfer {
-        instruction: transfer::instruction_of(b),
+        instruction: codes::instruction_of(b),
         ..Transfer::fresh(false)
     };
-    t.is(transfer::NO_BYTE)
+    t.is(codes::NO_BYTE)
 }
 
 // Whether chip select, rising now, lets a reset take effect.
@@ -70,7 +70,7 @@ pub fn allowed(s: State, e: Record) -> bool
     let rests = idle(s);
     match e {
         Record::Shift(b) => either(
-            either(either(rests, !first(x)), transfer::let_in(b)),
+            either(either(rests, !first(x)), codes::let_in(b)),
             unknown(b),
         ),
         Record::Deselect => either(rests, !resetting(t)),
@@ -109,7 +109,7 @@ fn up_transfer(t: Transfer) -> bool
     ensures { λ r. ⌜ r ≡ upTransfer t ⌝ }
 {
     let c = t.column;
-    let none = both(both(!t.selected, t.count == 0), t.is(transfer::NO_BYTE));
+    let none = both(both(!t.selected, t.count == 0), t.is(codes::NO_BYTE));
     let bytes = both(both(both(none, t.first == 0), t.second == 0), t.third == 0);
     both(bytes, c.0 == 0)
 }

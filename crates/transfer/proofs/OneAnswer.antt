@@ -4,20 +4,6 @@ use mathlib.Core.Path.{_∙_, sym, refl}
 use Prim.Native.Nat.{ℕ}
 use denote.Ref.{now}
 use Rattle.part.specs.OneAnswer.{OneAnswer, OneEnd}
-use Rattle.transfer.proofs.instruction_of.Reads as instruction-of-reads
-use Rattle.transfer.proofs.instruction_of.Kinds as instruction-of-kinds
-use Rattle.transfer.proofs.byte_of.Reads as byte-of-reads
-use Rattle.transfer.proofs.byte_of.Kinds as byte-of-kinds
-use Rattle.transfer.proofs.let_in.Reads as let-in-reads
-use Rattle.transfer.proofs.let_in.Kinds as let-in-kinds
-use Rattle.transfer.proofs.next_column.Reads as next-column-reads
-use Rattle.transfer.proofs.next_column.Kinds as next-column-kinds
-use Rattle.transfer.proofs.next_read.Reads as next-read-reads
-use Rattle.transfer.proofs.next_read.Kinds as next-read-kinds
-use Rattle.transfer.proofs.byte_at.Reads as byte-at-reads
-use Rattle.transfer.proofs.byte_at.Kinds as byte-at-kinds
-use Rattle.transfer.proofs.store_at.Reads as store-at-reads
-use Rattle.transfer.proofs.store_at.Kinds as store-at-kinds
 use Rattle.transfer.proofs.Bus.heard.Reads as heard-reads
 use Rattle.transfer.proofs.Bus.heard.Kinds as heard-kinds
 use Rattle.transfer.proofs.Transfer.fresh.Reads as fresh-reads
@@ -39,26 +25,8 @@ use Rattle.transfer.proofs.Bus.body_heard.Kinds as body-heard-kinds
 use Rattle.transfer.proofs.Bus.caches.Reads as caches-reads
 use Rattle.transfer.proofs.Bus.caches.Kinds as caches-kinds
 
-pub instruction-of-one : OneAnswer 0 instruction-of-kinds.ps instruction-of-kinds.r instruction-of-reads.Post
-instruction-of-one κs a x y s t p q = p ∙ sym q
-
-pub byte-of-one : OneAnswer 0 byte-of-kinds.ps byte-of-kinds.r byte-of-reads.Post
-byte-of-one κs a x y s t p q = p ∙ sym q
-
-pub let-in-one : OneAnswer 0 let-in-kinds.ps let-in-kinds.r let-in-reads.Post
-let-in-one κs a x y s t p q = p ∙ sym q
-
-pub next-column-one : OneAnswer 0 next-column-kinds.ps next-column-kinds.r next-column-reads.Post
-next-column-one κs a x y s t p q = p ∙ sym q
-
-pub next-read-one : OneAnswer 0 next-read-kinds.ps next-read-kinds.r next-read-reads.Post
-next-read-one κs a x y s t p q = p ∙ sym q
-
 pub heard-one : OneAnswer 0 heard-kinds.ps heard-kinds.r heard-reads.Post
 heard-one κs a x y s t p q = p ∙ sym q
-
-pub byte-at-one : OneAnswer 1 byte-at-kinds.ps byte-at-kinds.r byte-at-reads.Post
-byte-at-one κs a x y s t p q = p ∙ sym q
 
 pub fresh-one : OneAnswer 0 fresh-kinds.ps fresh-kinds.r fresh-reads.Post
 fresh-one κs a x y s t p q = p ∙ sym q
@@ -86,6 +54,3 @@ body-heard-one κs a x y s t p q = p ∙ sym q
 
 pub caches-one : OneEnd 1 caches-kinds.ps caches-kinds.r (List ℕ) (λ κs s. now (s .1 .1 .1 .0)) caches-reads.Post
 caches-one κs a x y s t p q = (refl, p ∙ sym q)
-
-pub store-at-one : OneEnd 1 store-at-kinds.ps store-at-kinds.r (List ℕ) (λ κs s. now (s .0)) store-at-reads.Post
-store-at-one κs a x y s t p q = (refl, p ∙ sym q)

@@ -1,29 +1,11 @@
 // A transfer on the bus: chip select, the bytes shifted in, and what they do to the cache register. Document 01, "Instructions".
 ghost use mathlib.Core.Path.{_≡_};
-ghost use lib.ListN.{set};
-ghost use Rattle.transfer.specs.Transfer.{byteOf, instructionOf, open?, heardAs, is, formBytes, full, withTransfer, withPins, fresh, selects, ends, more, next, nextRead, columnOf, rowOf, columnBytes, columnOn, columnAfter, instructed, later, heard, shiftedIn, bodyHeard, cacheByte, stored, cached};
+ghost use Rattle.transfer.specs.Transfer.{is, full, withTransfer, withPins, fresh, selects, ends, more, rowOf, columnBytes, columnOn, columnAfter, instructed, later, heard, shiftedIn, bodyHeard, stored, cached};
+use codes::Instruction;
 use part::Column;
 use part::Geometry;
 use part::Row;
 use registers::Pins;
-
-// The instruction of a transfer. `Ignored` stands where there is none to carry out: no byte has come yet, the byte is no
-// instruction, or the array was busy as it came.
-pub enum Instruction {
-    Ignored,
-    WriteEnable,
-    WriteDisable,
-    GetFeature,
-    SetFeature,
-    ReadId,
-    PageRead,
-    ReadCache,
-    Load,
-    LoadRandom,
-    Execute,
-    BlockErase,
-    Reset,
-}
 
 // A transfer, from select to deselect: the count of its bytes (5 stands for more), the instruction, the three bytes after
 // it as they came, and the next column.
@@ -41,150 +23,6 @@ pub struct Transfer {
 pub struct Bus {
     pub pins: Pins,
     pub transfer: Transfer,
-}
-
-// The instruction of a byte.
-pub fn instruction_of(b: u8) -> Instruction
-    ensures { λ r. ⌜ r ≡ instructionOf b ⌝ }
-{
-    match b {
-        0x06 => Instruction::WriteEnable,
-        0x04 => Instruction::WriteDisable,
-        0x0F => Instruction::GetFeature,
-        0x1F => Instruction::SetFeature,
-        0x9F => Instruction::ReadId,
-        0x13 => Instruction::PageRead,
-        0x03 | 0x0B => Instruction::ReadCache,
-        0x02 => Instruction::Load,
-        0x84 => Instruction::LoadRandom,
-        0x10 => Instruction::Execute,
-        0xD8 => Instruction::BlockErase,
-        0xFF => Instruction::Reset,
-        _ => Instruction::Ignored,
-    }
-}
-
-// Stands for the byte of what is ignored: it is no byte.
-pub const NO_BYTE: u16 = 256;
-
-// The byte of an instruction.
-pub fn byte_of(i: Instruction) -> u16
-    ensures { λ r. ⌜ r ≡ byteOf i ⌝ }
-{
-    match i {
-        Instruction::Ignored => NO_BYTE,
-        Instruction::WriteEnable => 0x06,
-        Instruction::WriteDisable => 0x04,
-        Instruction::GetFeature => 0x0F,
-        Instruction::SetFeature => 0x1F,
-        Instruction::ReadId => 0x9F,
-        Instruction::PageRead => 0x13,
-        Instruction::ReadCache => 0x03,
-        Instruction::Load => 0x02,
-        Instruction::LoadRandom => 0x84,
-        Instruction::Execute => 0x10,
-        Instruction::BlockErase => 0xD8,
-        Instruction::Reset => 0xFF,
-    }
-}
-
-// The bytes of an instruction that acts as chip select rises.
-fn form_bytes(i: Instruction) -> u8
-    ensures { λ r. ⌜ r ≡ formBytes i ⌝ }
-{
-    match i {
-        Instruction::WriteEnable => 1,
-        Instruction::WriteDisable => 1,
-        Instruction::SetFeature => 3,
-        Instruction::PageRead => 4,
-        Instruction::Execute => 4,
-        Instruction::BlockErase => 4,
-        Instruction::Reset => 1,
-        Instruction::Ignored => 0,
-        Instruction::GetFeature => 0,
-        Instruction::ReadId => 0,
-        Instruction::ReadCache => 0,
-        Instruction::Load => 0,
-        Instruction::LoadRandom => 0,
-    }
-}
-
-// Whether a busy array lets in the instruction of a first byte.
-pub fn let_in(b: u8) -> bool
-    ensures { λ r. ⌜ r ≡ open? b ⌝ }
-{
-    match b {
-        0x0F | 0x9F | 0xFF => true,
-        _ => false,
-    }
-}
-
-// The instruction that a first byte begins: a busy array lets in three of them.
-fn heard_as(busy: bool, b: u8) -> Instruction
-    ensures { λ r. ⌜ r ≡ heardAs busy b ⌝ }
-{
-    if !busy {
-        return instruction_of(b);
-    }
-    if let_in(b) {
-        return instruction_of(b);
-    }
-    Instruction::Ignored
-}
-
-// The next column, which stays at 4,096.
-pub fn next_column(c: Column) -> Column
-    ensures { λ r. ⌜ r ≡ next c ⌝ }
-{
-    if c.0 < 4096 {
-        Column(c.0 + 1)
-    } else {
-        Column(4096)
-    }
-}
-
-// The next column of a read, on a page of so many bytes: the first follows the last, and one past the page stays past it.
-pub fn next_read(page: usize, c: Column) -> Column
-    ensures { λ r. ⌜ r ≡ nextRead page c ⌝ }
-{
-    if part::wide_short(c.0) + 1 == page {
-        return Column(0);
-    }
-    next_column(c)
-}
-
-// The cache byte at a column, FFh past the page's end.
-pub fn byte_at(cache: &[u8], c: Column) -> u8
-    ensures { λ r. ⌜ r ≡ cacheByte (now (cache .entry)) c ⌝ }
-{
-    let at = part::wide_short(c.0);
-    if at < cache.len() {
-        return cache[at];
-    }
-    0xFF
-}
-
-// A byte stored at a column of the cache register; one past the page's end is dropped.
-pub fn store_at(cache: &mut [u8], c: Column, b: u8)
-    ensures { λ r. ⌜ now (cache .exit) ≡ set (now (cache .entry)) (c .0) b ⌝ }
-{
-    let at = part::wide_short(c.0);
-    if at < cache.len() {
-        cache[at] = b;
-    }
-}
-
-// A column address, the top four bits of its high byte ignored.
-fn column_of(high: u8, low: u8) -> Column
-    ensures { λ r. ⌜ r ≡ columnOf high low ⌝ }
-{
-    Column(wide(high % 16) * 256 + wide(low))
-}
-
-fn wide(b: u8) -> u16
-    ensures { λ r. ⌜ r ≡ b ⌝ }
-{
-    b as u16
 }
 
 impl Transfer {
@@ -208,7 +46,7 @@ impl Transfer {
         ensures { λ r. ⌜ r ≡ is self byte ⌝ }
     {
         let i = self.instruction;
-        byte_of(i) == byte
+        codes::byte_of(i) == byte
     }
 
     // Whether exactly the instruction's bytes were shifted.
@@ -216,14 +54,14 @@ impl Transfer {
         ensures { λ r. ⌜ r ≡ full self ⌝ }
     {
         let i = self.instruction;
-        self.count == form_bytes(i)
+        self.count == codes::form_bytes(i)
     }
 
     // The row address.
     pub fn row(self) -> Row
         ensures { λ r. ⌜ r ≡ rowOf self ⌝ }
     {
-        Row(wide(self.second) * 256 + wide(self.third))
+        Row(columns::wide(self.second) * 256 + columns::wide(self.third))
     }
 
     // The bytes before the first one that moves the column on, or 0 for an instruction without a column.
@@ -248,9 +86,9 @@ impl Transfer {
     {
         let c = self.column;
         if self.is(0x03) {
-            return next_read(g.page(), c);
+            return columns::next_read(g.page(), c);
         }
-        next_column(c)
+        columns::next_column(c)
     }
 
     // The next column after a byte.
@@ -263,7 +101,7 @@ impl Transfer {
             return c;
         }
         if self.count == 2 {
-            return column_of(self.first, b);
+            return columns::column_of(self.first, b);
         }
         if k <= self.count {
             return self.column_on(g);
@@ -279,7 +117,7 @@ impl Transfer {
         if self.count < 3 {
             return;
         }
-        store_at(cache, c, b);
+        columns::store_at(cache, c, b);
     }
 
     // The first byte is the instruction.
@@ -288,7 +126,7 @@ impl Transfer {
     {
         Transfer {
             count: 1,
-            instruction: heard_as(busy, b),
+            instruction: codes::heard_as(busy, b),
             ..self
         }
     }

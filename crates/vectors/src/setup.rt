@@ -163,7 +163,7 @@ impl Setup {
     }
 
     fn transfer(self) -> Transfer {
-        let instruction = transfer::instruction_of(self.byte(CODE));
+        let instruction = codes::instruction_of(self.byte(CODE));
         let column = Column(self.short(COLUMN));
         Transfer {
             selected: self.number(SELECTED) == 1,

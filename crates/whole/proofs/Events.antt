@@ -21,8 +21,8 @@ use Rattle.array.specs.declared.Work.{Work}
 use Rattle.array.specs.declared.Work.the-variants.{Idle, Busy}
 use Rattle.transfer.specs.Transfer.{rowOf, full, ends, shiftedIn}
 use Rattle.transfer.specs.declared.Bus.{Bus}
-use Rattle.transfer.specs.declared.Instruction.{Instruction}
-use Rattle.transfer.specs.declared.Instruction.the-variants.{Ignored, WriteEnable, WriteDisable, GetFeature, SetFeature, ReadId, PageRead, ReadCache, Load, LoadRandom, Execute, BlockErase, Reset}
+use Rattle.codes.specs.declared.Instruction.{Instruction}
+use Rattle.codes.specs.declared.Instruction.the-variants.{Ignored, WriteEnable, WriteDisable, GetFeature, SetFeature, ReadId, PageRead, ReadCache, Load, LoadRandom, Execute, BlockErase, Reset}
 use Rattle.device.specs.Machine.{Machine, withStatus, withWork, withCounts, overBus, overStore}
 use Rattle.device.specs.Work.{begins, unitwise}
 use Rattle.device.specs.Instructions.{shifts, requested, programs, erases, resets, effect, acted, deselects}

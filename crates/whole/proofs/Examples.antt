@@ -6,7 +6,8 @@ use Rattle.registers.specs.Registers.{register, registerWritten}
 use Rattle.buslog.specs.Log.{written}
 use Rattle.buslog.specs.Read.{front, parseAfter}
 use Rattle.buslog.specs.Write.{over}
-use Rattle.transfer.specs.Transfer.{instructionOf, selects, shiftedIn, cached}
+use Rattle.codes.specs.Codes.{instructionOf}
+use Rattle.transfer.specs.Transfer.{selects, shiftedIn, cached}
 use Rattle.array.specs.Jobs as jobs
 use Rattle.device.specs.Work.{unitOf, units, unitwise}
 use Rattle.requests.specs.Requests.{programFate, eraseFate}

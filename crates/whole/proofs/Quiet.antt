@@ -8,11 +8,12 @@ use lib.Dec.{T, eqb, eqb→eq}
 use borrow.Author.Tests.{ne-eqb, not-true, not-false}
 use Rattle.part.specs.declared.Geometry.{Geometry}
 use Rattle.part.proofs.Choice.{cond-keep, cond-two, T-true, true-T, and-l, and-r}
-use Rattle.transfer.specs.Transfer.{byteOf, instructionOf, open?, heardAs, is, formBytes, withTransfer, ends, heard, bodyHeard, shiftedIn, cached}
+use Rattle.codes.specs.Codes.{byteOf, instructionOf, open?, heardAs, formBytes}
+use Rattle.transfer.specs.Transfer.{is, withTransfer, ends, heard, bodyHeard, shiftedIn, cached}
 use Rattle.transfer.specs.declared.Bus.{Bus}
 use Rattle.transfer.specs.declared.Transfer.{Transfer}
-use Rattle.transfer.specs.declared.Instruction.{Instruction}
-use Rattle.transfer.specs.declared.Instruction.the-variants.{Ignored, WriteEnable, WriteDisable, GetFeature, SetFeature, ReadId, PageRead, ReadCache, Load, LoadRandom, Execute, BlockErase, Reset}
+use Rattle.codes.specs.declared.Instruction.{Instruction}
+use Rattle.codes.specs.declared.Instruction.the-variants.{Ignored, WriteEnable, WriteDisable, GetFeature, SetFeature, ReadId, PageRead, ReadCache, Load, LoadRandom, Execute, BlockErase, Reset}
 use Rattle.device.specs.Machine.{Machine, overBus}
 use Rattle.device.specs.Work.{Array}
 use Rattle.device.specs.Instructions.{effect, acted, deselects}

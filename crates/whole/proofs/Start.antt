@@ -15,9 +15,10 @@ use Rattle.array.specs.Jobs.{Store, Fits, lengthOf}
 use Rattle.array.specs.declared.Job.the-variants.{Read, Program, Erase, Restart}
 use Rattle.array.specs.declared.Work.{Work}
 use Rattle.array.specs.declared.Work.the-variants.{Idle, Busy}
-use Rattle.transfer.specs.Transfer.{byteOf, fresh}
+use Rattle.codes.specs.Codes.{byteOf}
+use Rattle.transfer.specs.Transfer.{fresh}
 use Rattle.transfer.specs.declared.Transfer.{Transfer}
-use Rattle.transfer.specs.declared.Instruction.{Instruction}
+use Rattle.codes.specs.declared.Instruction.{Instruction}
 use Rattle.device.specs.Machine.{Machine, withState, withStore, withWork}
 use Rattle.device.specs.Work.{ended, unitwise}
 use Rattle.device.specs.Step.{off, powered, powerUp, step}

@@ -10,7 +10,8 @@ use Rattle.array.specs.declared.Job.the-variants.{Read, Program, Erase, Restart
 use Rattle.array.specs.declared.Work.{Work}
 use Rattle.array.specs.declared.Work.the-variants.{Idle, Busy}
 use Rattle.registers.specs.declared.Registers.{Registers}
-use Rattle.transfer.specs.Transfer.{noByte, byteOf, instructionOf, open?, is, full, heard, bodyHeard, withPins}
+use Rattle.codes.specs.Codes.{noByte, byteOf, instructionOf, open?}
+use Rattle.transfer.specs.Transfer.{is, full, heard, bodyHeard, withPins}
 use Rattle.transfer.specs.declared.Bus.{Bus}
 use Rattle.transfer.specs.declared.Transfer.{Transfer}
 use Rattle.device.specs.Machine.{Machine, busIn}

@@ -1,6 +1,6 @@
 use mathlib.Core.Path.{sym, ap, _∙_}
 use denote.Ref.{now}
-use Rattle.transfer.specs.declared.Instruction.{Instruction}
+use Rattle.codes.specs.declared.Instruction.{Instruction}
 use Rattle.device.specs.Machine.{onCounts}
 -- What each instruction does: the arm's instruction decides the definition.
 use Rattle.device.specs.Work.{unitwise}

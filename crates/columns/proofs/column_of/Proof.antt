@@ -1,6 +1,6 @@
 use borrow.Author.Needs.{needs}
-use Rattle.transfer.proofs.column_of.Statement.{statement}
-use Rattle.transfer.proofs.column_of.Tie as tie
+use Rattle.columns.proofs.column_of.Statement.{statement}
+use Rattle.columns.proofs.column_of.Tie as tie
 
 wide-requires : tie.Need-wide-requires
 wide-requires c κs = search needs

@@ -3,8 +3,8 @@ use mathlib.Core.Path.{ap}
 use Prim.Native.Nat.{ℕ}
 use Rattle.part.specs.declared.Column.{Column}
 use borrow.Author.Needs.{needs}
-use Rattle.transfer.proofs.next_column.Statement.{statement}
-use Rattle.transfer.proofs.next_column.Tie as tie
+use Rattle.columns.proofs.next_column.Statement.{statement}
+use Rattle.columns.proofs.next_column.Tie as tie
 
 add-t4 : tie.Need-add-t4
 add-t4 c = search needs

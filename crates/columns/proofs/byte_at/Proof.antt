@@ -2,10 +2,10 @@
 use denote.Ref.{now}
 use lib.ListN.{length, List·getD-eq-default}
 use Prim.Native.Nat.{_≤_, _<_}
-use Rattle.transfer.proofs.Bytes.{getD-any}
+use Rattle.columns.proofs.Bytes.{getD-any}
 use borrow.Author.Needs.{needs}
-use Rattle.transfer.proofs.byte_at.Statement.{statement}
-use Rattle.transfer.proofs.byte_at.Tie as tie
+use Rattle.columns.proofs.byte_at.Statement.{statement}
+use Rattle.columns.proofs.byte_at.Tie as tie
 
 wide-short-requires : tie.Need-wide-short-requires
 wide-short-requires c κs = search needs

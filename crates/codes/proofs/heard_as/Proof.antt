@@ -3,8 +3,8 @@ use mathlib.Core.Path.{sym, _∙_}
 use borrow.Author.Tests.{not-true, not-false}
 use borrow.Author.Needs.{needs}
 use borrow.Author.Needs.{needs}
-use Rattle.transfer.proofs.heard_as.Statement.{statement}
-use Rattle.transfer.proofs.heard_as.Tie as tie
+use Rattle.codes.proofs.heard_as.Statement.{statement}
+use Rattle.codes.proofs.heard_as.Tie as tie
 
 instruction-of-requires : tie.Need-instruction-of-requires
 instruction-of-requires c κs = search needs

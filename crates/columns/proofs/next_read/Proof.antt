@@ -1,8 +1,8 @@
 -- The next column of a read: at the page's last it is 0, and else the next one.
 use borrow.Author.Tests.{eq-eqb, ne-eqb}
 use borrow.Author.Needs.{needs}
-use Rattle.transfer.proofs.next_read.Statement.{statement}
-use Rattle.transfer.proofs.next_read.Tie as tie
+use Rattle.columns.proofs.next_read.Statement.{statement}
+use Rattle.columns.proofs.next_read.Tie as tie
 
 wide-short-requires : tie.Need-wide-short-requires
 wide-short-requires c κs = search needs

@@ -1,8 +1,8 @@
 use borrow.Author.Tests.{ne-eqb}
 use mathlib.Core.Logic.{⊎-elim, inl, inr}
-use Rattle.transfer.specs.Transfer.{instructionOf}
-use Rattle.transfer.proofs.instruction_of.Statement.{statement}
-use Rattle.transfer.proofs.instruction_of.Tie as tie
+use Rattle.codes.specs.Codes.{instructionOf}
+use Rattle.codes.proofs.instruction_of.Statement.{statement}
+use Rattle.codes.proofs.instruction_of.Tie as tie
 
 returns : tie.Need-returns
 unfolding instructionOf

@@ -5,8 +5,8 @@ use lib.ListN.{length}
 use lib.Seq.{set-out}
 use borrow.Author.Needs.{needs}
 use borrow.Author.Needs.{needs}
-use Rattle.transfer.proofs.store_at.Statement.{statement}
-use Rattle.transfer.proofs.store_at.Tie as tie
+use Rattle.columns.proofs.store_at.Statement.{statement}
+use Rattle.columns.proofs.store_at.Tie as tie
 
 wide-short-requires : tie.Need-wide-short-requires
 wide-short-requires c κs = search needs

@@ -6,7 +6,7 @@ use mathlib.Core.Path.{_≡_}
 use Prim.Native.Nat.{ℕ}
 use types.Run.{OneOf}
 use borrow.Author.Tests.{ne-eqb}
-use Rattle.transfer.specs.Transfer.{open?}
+use Rattle.codes.specs.Codes.{open?}
 
 pub among : (b : ℕ) → OneOf (0x0F ∷ 0x9F ∷ 0xFF ∷ []) b → open? b ≡ true
 among b = ⊎-elim (λ e. rw e) (⊎-elim (λ e. rw e) (λ e. rw e))

@@ -1,8 +1,8 @@
 -- The three bytes, and all others.
 use mathlib.Core.Path.{sym}
-use Rattle.transfer.proofs.Open.{among, not-among}
-use Rattle.transfer.proofs.let_in.Statement.{statement}
-use Rattle.transfer.proofs.let_in.Tie as tie
+use Rattle.codes.proofs.Open.{among, not-among}
+use Rattle.codes.proofs.let_in.Statement.{statement}
+use Rattle.codes.proofs.let_in.Tie as tie
 
 returns : tie.Need-returns
 returns c = sym (among _ (c .match .keys1))
