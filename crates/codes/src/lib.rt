@@ -1,5 +1,5 @@
-// The instructions and their codes: the one that a byte begins, what a busy array lets in, how many bytes acts take. Document 01,
-// "Instructions".
+// The instructions and their codes: which one a byte begins, what a busy array lets in, and the bytes of those that act as chip select
+// rises. Document 01, "Instructions".
 ghost use mathlib.Core.Path.{_≡_};
 ghost use Rattle.codes.specs.Codes.{byteOf, instructionOf, open?, heardAs, formBytes};
 
