@@ -10,12 +10,12 @@ ghost use Rattle.device.specs.Step.{powerUp, powered};
 ghost use Rattle.device.specs.Sound.{soundState};
 use array::Job;
 use array::Work;
+use codes::Instruction;
 use part::Geometry;
 use part::Row;
 use registers::Pins;
 use registers::Registers;
 use transfer::Bus;
-use codes::Instruction;
 use transfer::Transfer;
 
 // The device state: it goes in whole and comes back whole with each event.

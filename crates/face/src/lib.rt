@@ -4,6 +4,7 @@ ghost use Rattle.part_numbers.specs.Numbers.{partOf};
 ghost use Rattle.face.specs.Face.{instructionAt, workAt, stateAs, stateOf, flag, faced, facedJob, faceOf, soundTold, noState, standIn, handedBack};
 use array::Job;
 use array::Work;
+use codes::Instruction;
 use device::State;
 use part::Column;
 use part::Row;
@@ -11,7 +12,6 @@ use part_numbers::CGeometry;
 use registers::Pins;
 use registers::Registers;
 use transfer::Bus;
-use codes::Instruction;
 use transfer::Transfer;
 
 // The device state.
