@@ -3,16 +3,18 @@
 use mathlib.Core.Bool.{Bool, not, _&&_}
 use mathlib.Core.List.{List, [], _∷_, _++_, map}
 use mathlib.Core.Path.{_≡_}
-use Prim.Native.Nat.{ℕ, _*_}
+use Prim.Native.Nat.{ℕ, _*_, _≤_, _<_}
 use lib.Dec.{T}
 use lib.ListN.{replicate}
-use Rattle.part.specs.Part.{bench, fm25s005bi3, ofStepping}
-use Rattle.part.specs.Protection.{cmp}
+use Rattle.part.specs.Part.{rows, bench, fm25s005bi3, ofStepping}
+use Rattle.part.specs.Protection.{bp, cmp, cmpSet, cmpCleared}
 use Rattle.part.specs.declared.Geometry.{Geometry}
+use Rattle.part.specs.declared.Row.{Row}
 use Rattle.part.specs.declared.Stepping.the-variants.{First, Second}
 use Rattle.buslog.specs.Read.{parse}
 use Rattle.buslog.specs.declared.Record.{Record}
 use Rattle.buslog.specs.declared.Record.the-variants.{Power}
+use Rattle.requests.specs.Requests.{begins?, usedOf, programFate, eraseFate}
 use Rattle.device.specs.Machine.{Machine}
 use Rattle.device.specs.Work.{unitwise}
 use Rattle.device.specs.Step.{step, run}
@@ -20,6 +22,14 @@ use Rattle.model.specs.Runs.{fitting, runOf}
 use Rattle.cases.specs.Cases.{Case, _·_⇒_, blank, countingFrom, guards, idleWith, send, wrong}
 
 -- ---- for every part and every machine
+
+-- second stepping, b from 1 to 6, a row of the array: an erase begins with CMP 1 if and only if it fails with CMP 0; and so does a program
+-- of a page that has been programmed fewer than 4 times
+abbrev pub RequestsTurned : Type 0
+RequestsTurned =
+    (g : Geometry) (a0 : ℕ) (r : Row) (counts : List ℕ) → g .stepping ≡ Second → 1 ≤ bp a0 → bp a0 ≤ 6 → r .0 < rows g → usedOf r counts < 4 →
+    (begins? (eraseFate g (cmpSet a0) r) ≡ not (begins? (eraseFate g (cmpCleared a0) r)))
+    × (begins? (programFate g (cmpSet a0) r counts) ≡ not (begins? (programFate g (cmpCleared a0) r counts)))
 
 -- CMP is 0, now and after each of the records, on the second stepping
 unfoldable pub cmpFree : Geometry → Machine → List Record → Bool
