@@ -2,12 +2,11 @@
 use mathlib.Core.Bool.{Bool, true, false, not, cond, _&&_}
 use mathlib.Core.Logic.{_↔_, _⊎_, inl, inr}
 use mathlib.Core.Path.{_≡_, refl, sym, ap, _∙_}
-use Prim.Native.Nat.{ℕ, _+_, _-_, _*_, _/_, _%_, _^_, _≤_, _<_}
+use Prim.Native.Nat.{ℕ, _-_, _/_, _%_, _≤_, _<_}
 use native.Mathlib.Nat.{div-eq-of-lt, div-one}
 use native.Mathlib.Omega.{arith}
 use lib.Dec.{T, leb, ltb, eqb, ltb→lt}
-use borrow.Author.Tests.{eq-eqb, le-leb, lt-leb, lt-ltb, le-ltb}
-use Rattle.part.specs.Part.{ofStepping}
+use borrow.Author.Tests.{le-leb, lt-leb, lt-ltb, le-ltb}
 use Rattle.part.specs.Promises.{ComplementExactly, AtTheEndsNothing, FirstKnowsNone, NoneBeyond, SmallAllProtected, NoneAndAll, WithoutCmpAlike}
 use Rattle.part.specs.Protection.{bp, inv, cmp, guarded, picked, complemented, protects, cmpSet, cmpCleared}
 use Rattle.part.specs.declared.Geometry.{Geometry}

@@ -1,19 +1,30 @@
--- Laws of the part: the soundness test says what the record says, both named parts are sound, and how many blocks can be protected.
+-- Laws of the part: the soundness test says what the record says, both named parts are sound, how many blocks can be picked, and which block
+-- a row can have.
 use mathlib.Core.Bool.{Bool, _&&_}
-use Prim.Native.Nat.{ℕ, _-_, _^_, _≤_}
-use native.Mathlib.Nat.{div-le-self}
+use Prim.Native.Nat.{ℕ, zero, suc, _-_, _*_, _^_, _≤_, _<_}
+use native.Mathlib.Nat.{zero-mul, mul-comm, div-le-self, div-lt-iff-lt-mul}
 use native.Mathlib.Omega.{arith}
 use lib.Dec.{T, leb, eqb, leb→le}
 use borrow.Author.Tests.{le-leb}
-use Rattle.part.specs.Part.{page, rows, Sound, soundPart, bench, fm25s005bi3}
+use Rattle.part.specs.Part.{page, rows, Sound, soundPart, block, bench, fm25s005bi3}
 use Rattle.part.specs.Promises.{SoundPartExactly, NamedPartsSound}
 use Rattle.part.specs.Protection.{guarded}
 use Rattle.part.specs.declared.Geometry.{Geometry}
+use Rattle.part.specs.declared.Row.{Row}
 use Rattle.part.proofs.Choice.{cond-keep, and-l, and-r}
 
 -- no more blocks are protected than there are
 pub guarded-few : (g : Geometry) (b : ℕ) → guarded g b ≤ g .blocks
 guarded-few g b = cond-keep (λ (q : ℕ). q ≤ g .blocks) (eqb b 0) (λ e. omega arith) (λ e. div-le-self (g .blocks) (2 ^ (7 - b)))
+
+-- a part with a row has pages
+some-pages : (k n r : ℕ) → r < k * n → 1 ≤ k
+some-pages zero n r h = absurd (omega (arith, zero-mul n, h))
+some-pages (suc k) n r h = omega arith
+
+-- the block of a row of the array is one of the blocks
+pub block-below : (g : Geometry) (r : Row) → r .0 < rows g → block g r < g .blocks
+block-below g r h = div-lt-iff-lt-mul (some-pages (g .pages) (g .blocks) (r .0) h) .1 (rw (mul-comm (g .blocks) (g .pages)) h)
 
 -- six tests hold together exactly when each does
 six : (a b c d e f : Bool) → T (a && b && c && d && e && f) → T a × T b × T c × T d × T e × T f

@@ -8,7 +8,7 @@ use lib.Bits.{bitAnd, and-step}
 use lib.Dec.{T, eqb}
 use borrow.Author.Tests.{eqb-false, not-true}
 use Rattle.part.specs.Part.{soundPart, ofStepping}
-use Rattle.part.specs.Protection.{cmp, protects}
+use Rattle.part.specs.Protection.{cmp}
 use Rattle.part.specs.declared.Geometry.{Geometry}
 use Rattle.part.specs.declared.Row.{Row}
 use Rattle.part.specs.declared.Stepping.the-variants.{First, Second}
@@ -29,7 +29,7 @@ use Rattle.array.specs.declared.Work.{Work}
 use Rattle.array.specs.declared.Work.the-variants.{Idle, Busy}
 use Rattle.requests.specs.Requests.{programFate, eraseFate}
 use Rattle.device.specs.Machine.{Machine, overBus, withState, regsIn}
-use Rattle.device.specs.Work.{Array, unitOf, units, unitwise}
+use Rattle.device.specs.Work.{unitOf, units, unitwise}
 use Rattle.device.specs.Instructions.{shifts, answer, programs, erases, resets, effect, acted, deselects}
 use Rattle.device.specs.Step.{off, powered, step, run}
 use Rattle.device.specs.Sound.{soundState}

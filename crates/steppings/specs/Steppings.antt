@@ -1,7 +1,7 @@
--- Document 02, item 7: the second stepping and its complement bit. What it has in common with the first, for every part and every
--- machine; and cases, one table.
+-- Document 02, item 7: the second stepping and its complement bit. What CMP does to requests, and that without it the steppings do the same,
+-- for every part and every machine; and cases, one table.
 use mathlib.Core.Bool.{Bool, not, _&&_}
-use mathlib.Core.List.{List, [], _∷_, _++_, map}
+use mathlib.Core.List.{List, [], _∷_, _++_}
 use mathlib.Core.Path.{_≡_}
 use Prim.Native.Nat.{ℕ, _*_, _≤_, _<_}
 use lib.Dec.{T}
@@ -27,9 +27,9 @@ use Rattle.cases.specs.Cases.{Case, _·_⇒_, blank, countingFrom, guards, idle
 -- of a page that has been programmed fewer than 4 times
 abbrev pub RequestsTurned : Type 0
 RequestsTurned =
-    (g : Geometry) (a0 : ℕ) (r : Row) (counts : List ℕ) → g .stepping ≡ Second → 1 ≤ bp a0 → bp a0 ≤ 6 → r .0 < rows g → usedOf r counts < 4 →
+    (g : Geometry) (a0 : ℕ) (r : Row) → g .stepping ≡ Second → 1 ≤ bp a0 → bp a0 ≤ 6 → r .0 < rows g →
     (begins? (eraseFate g (cmpSet a0) r) ≡ not (begins? (eraseFate g (cmpCleared a0) r)))
-    × (begins? (programFate g (cmpSet a0) r counts) ≡ not (begins? (programFate g (cmpCleared a0) r counts)))
+    × ((counts : List ℕ) → usedOf r counts < 4 → begins? (programFate g (cmpSet a0) r counts) ≡ not (begins? (programFate g (cmpCleared a0) r counts)))
 
 -- CMP is 0, now and after each of the records, on the second stepping
 unfoldable pub cmpFree : Geometry → Machine → List Record → Bool

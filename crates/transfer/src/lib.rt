@@ -1,6 +1,6 @@
 // A transfer on the bus: chip select, the bytes shifted in, and what they do to the cache register. Document 01, "Instructions".
 ghost use mathlib.Core.Path.{_≡_};
-ghost use Rattle.transfer.specs.Transfer.{is, full, withTransfer, withPins, fresh, selects, ends, more, rowOf, columnBytes, columnOn, columnAfter, instructed, later, heard, shiftedIn, bodyHeard, stored, cached};
+ghost use Rattle.transfer.specs.Transfer.{is, full, fresh, selects, ends, rowOf, columnBytes, columnOn, columnAfter, instructed, later, heard, shiftedIn, bodyHeard, stored, cached};
 use codes::Instruction;
 use part::Column;
 use part::Geometry;
