@@ -1,5 +1,5 @@
--- Laws of the part: the soundness test says what the record says, both named parts are sound, how many blocks can be picked, and which block
--- a row can have.
+-- Laws of the part: the soundness test says what the record says, both named parts are sound, how many blocks can be picked, and which
+-- block a row can have.
 use mathlib.Core.Bool.{Bool, _&&_}
 use Prim.Native.Nat.{ℕ, zero, suc, _-_, _*_, _^_, _≤_, _<_}
 use native.Mathlib.Nat.{zero-mul, mul-comm, div-le-self, div-lt-iff-lt-mul}

@@ -1,4 +1,5 @@
--- Document 01, "The article": the part, when its geometry is sound, the cell of a row and a column, the block of a row, and the two named parts.
+-- Document 01, "The article": the part, when its geometry is sound, the cell of a row and a column, the block of a row, and the two named
+-- parts.
 use mathlib.Core.Bool.{Bool, _&&_}
 use Prim.Native.Nat.{ℕ, _+_, _*_, _/_, _≤_}
 use lib.Dec.{leb}

@@ -1,5 +1,5 @@
--- Document 02, item 7: the second stepping and its complement bit. What CMP does to requests, and that without it the steppings do the same,
--- for every part and every machine; and cases, one table.
+-- Document 02, item 7: the second stepping and its complement bit. What CMP does to requests, and that without it the steppings do the
+-- same, for every part and every machine; and cases, one table.
 use mathlib.Core.Bool.{Bool, not, _&&_}
 use mathlib.Core.List.{List, [], _∷_, _++_}
 use mathlib.Core.Path.{_≡_}

@@ -58,7 +58,7 @@ more n = min 5 (n + 1)
 abbrev pub rowOf : Transfer → Row
 rowOf t = record { 0 = t .second * 256 + t .third }
 
--- for an instruction with a column: the bytes before the first one that moves the column on (03h and 0Bh have an idle byte); none for the others
+-- for an instruction with a column: the bytes before the first one that moves the column on (03h and 0Bh have an idle byte); else none
 abbrev pub columnBytes : Transfer → ℕ
 columnBytes t = if is t 0x03 then 4 else if is t 0x02 || is t 0x84 then 3 else 0
 

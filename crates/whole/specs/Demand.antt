@@ -60,7 +60,8 @@ recordsDone i e = take (e .answer .records) (parse (i .log) .records)
 abbrev pub supposed : Given → End → Bool
 supposed i e = starts (i .state) && orderly (i .part) (machineOf i) (recordsDone i e) && idle (e .answer .state)
 
--- the end: device state, cells, cache register and page counts are those of the whole run; the answer's numbers too; and the output bytes agree
+-- the end: device state, cells, cache register and page counts are those of the whole run; so are the answer's numbers; and the output bytes
+-- agree
 -- at every shift that does not answer Get Feature of C0h
 pub record SameEnd (i : Given) (e : End) : Type 0 where
   pub state : e .answer .state ≡ wholly i .machine .state
