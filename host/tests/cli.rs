@@ -1031,16 +1031,38 @@ fn image_by_hand(version: u8, stepping: u8, a0: u8) -> Vec<u8> {
     bytes
 }
 
+/// A log of the bench part that waits for the power-up read and writes A0h.
+fn setting_a0(a0: u8) -> Vec<u8> {
+    let mut log = Log::new();
+    log.push(Record::Work(20));
+    log.transfer(&[0x1F, 0xA0, a0]);
+    log.as_bytes().to_vec()
+}
+
+/// A replay of a log that saves its device in a file.
+fn saving(file: &str, args: &[&str], log: &[u8]) -> Output {
+    let args = [&["replay", "--save", file], args, &["-"]].concat();
+    with_input(&args, log)
+}
+
+/// The image that such a replay leaves there.
+fn saved_by(file: &str, args: &[&str], log: &[u8]) -> Vec<u8> {
+    succeeds(&saving(file, args, log));
+    fs::read(file).expect("the image")
+}
+
+/// The trace of a replay.
+fn traced(args: &[&str], log: &[u8]) -> String {
+    let args = [&["replay", "--trace"], args, &["-"]].concat();
+    succeeds(&with_input(&args, log))
+}
+
 /// Images without a word about a stepping are of the first, and such an image is what is saved.
 #[test]
 fn an_image_of_the_first_stepping_is_as_before() {
     let folder = Folder::new("an_image_of_the_first_stepping_is_as_before");
     let last = folder.file("last");
-    let saved = |args: &[&str], log: &[u8]| {
-        let args = [&["replay", "--save", &last], args, &["-"]].concat();
-        succeeds(&with_input(&args, log));
-        fs::read(&last).expect("the image")
-    };
+    let saved = |args: &[&str], log: &[u8]| saved_by(&last, args, log);
     let idle = [0x04, 0x14, 0x00];
     let new = image_by_hand(2, 0, 0x38);
     assert_eq!(saved(&[], &idle), new);
@@ -1055,15 +1077,11 @@ fn an_image_of_the_first_stepping_is_as_before() {
     assert_eq!(saved(&["--image", &old, "--stepping=1"], &idle), new);
 
     // They have no CMP.
-    let mut log = Log::new();
-    log.push(Record::Work(20));
-    log.transfer(&[0x1F, 0xA0, 0x22]);
+    let log = setting_a0(0x22);
     for image in [&image, &old] {
         let args = ["--image", image];
-        assert_eq!(saved(&args, log.as_bytes()), image_by_hand(2, 0, 0x20));
-        let trace = [&["replay", "--trace"], &args[..], &["-"]].concat();
-        let trace = succeeds(&with_input(&trace, log.as_bytes()));
-        assert!(trace.contains(" -> 20h, block 7 protected\n"), "{trace}");
+        assert_eq!(saved(&args, &log), image_by_hand(2, 0, 0x20));
+        assert!(traced(&args, &log).contains(" -> 20h, block 7 protected\n"));
     }
 }
 
@@ -1072,11 +1090,7 @@ fn an_image_of_the_first_stepping_is_as_before() {
 fn an_image_names_its_stepping() {
     let folder = Folder::new("an_image_names_its_stepping");
     let last = folder.file("last");
-    let saved = |args: &[&str], log: &[u8]| {
-        let args = [&["replay", "--save", &last], args, &["-"]].concat();
-        succeeds(&with_input(&args, log));
-        fs::read(&last).expect("the image")
-    };
+    let saved = |args: &[&str], log: &[u8]| saved_by(&last, args, log);
     let idle = [0x04, 0x14, 0x00];
     let new = image_by_hand(2, 1, 0x38);
     assert_eq!(saved(&["--stepping", "2"], &idle), new);
@@ -1088,18 +1102,11 @@ fn an_image_names_its_stepping() {
     let old = folder.write("old", &image_by_hand(1, 1, 0));
     assert_eq!(saved(&["--image", &old], &idle), new);
 
-    let mut log = Log::new();
-    log.push(Record::Work(20));
-    log.transfer(&[0x1F, 0xA0, 0x26]);
+    let log = setting_a0(0x26);
     for image in [&image, &old] {
         let args = ["--image", image];
-        assert_eq!(saved(&args, log.as_bytes()), image_by_hand(2, 1, 0x26));
-        let trace = [&["replay", "--trace"], &args[..], &["-"]].concat();
-        let trace = succeeds(&with_input(&trace, log.as_bytes()));
-        assert!(
-            trace.contains(" -> 26h, blocks 1 to 7 protected\n"),
-            "{trace}"
-        );
+        assert_eq!(saved(&args, &log), image_by_hand(2, 1, 0x26));
+        assert!(traced(&args, &log).contains(" -> 26h, blocks 1 to 7 protected\n"));
     }
 }
 
@@ -1109,14 +1116,8 @@ fn an_image_names_its_stepping() {
 fn a_stepping_decides_over_the_image() {
     let folder = Folder::new("a_stepping_decides_over_the_image");
     let last = folder.file("last");
-    let replay = |args: &[&str], log: &[u8]| {
-        let args = [&["replay", "--save", &last], args, &["-"]].concat();
-        with_input(&args, log)
-    };
-    let saved = |args: &[&str], log: &[u8]| {
-        succeeds(&replay(args, log));
-        fs::read(&last).expect("the image")
-    };
+    let replay = |args: &[&str], log: &[u8]| saving(&last, args, log);
+    let saved = |args: &[&str], log: &[u8]| saved_by(&last, args, log);
     let first = folder.write("first", &image_by_hand(2, 0, 0x20));
     let second = folder.write("second", &image_by_hand(2, 1, 0x20));
     let old = folder.write("old", &image_by_hand(1, 0, 0));

@@ -1543,30 +1543,15 @@ mod impostors {
     }
 
     fn takes_bit_1(case: &Case) -> Outcome {
-        let first = case.geometry.stepping == Stepping::First;
-        with_state_taken(case, |state| {
-            if first {
-                state.a0 &= !0x02;
-            }
-        })
+        with_bit_taken(case, Stepping::First, 0x02)
     }
 
     fn takes_bit_0(case: &Case) -> Outcome {
-        let second = case.geometry.stepping == Stepping::Second;
-        with_state_taken(case, |state| {
-            if second {
-                state.a0 &= !0x01;
-            }
-        })
+        with_bit_taken(case, Stepping::Second, 0x01)
     }
 
     fn takes_bit_6(case: &Case) -> Outcome {
-        let second = case.geometry.stepping == Stepping::Second;
-        with_state_taken(case, |state| {
-            if second {
-                state.a0 &= !0x40;
-            }
-        })
+        with_bit_taken(case, Stepping::Second, 0x40)
     }
 
     fn refuses_cmp(case: &Case) -> Outcome {
@@ -1683,6 +1668,16 @@ mod impostors {
     fn make_idle(state: &mut State) {
         (state.job, state.row, state.units) = (0, 0, 0);
         state.c0 &= !0x01;
+    }
+
+    /// On a stepping, a bit of A0h that is handed in is dropped, and so the state is not refused for it.
+    fn with_bit_taken(case: &Case, stepping: Stepping, bit: u8) -> Outcome {
+        let here = case.geometry.stepping == stepping;
+        with_state_taken(case, |state| {
+            if here {
+                state.a0 &= !bit;
+            }
+        })
     }
 
     /// The model on a state that was changed, if that is sound; else the state is refused as it was.

@@ -146,40 +146,71 @@ fn case_3_none_and_all() {
     }
 }
 
+/// The lines of the table in `docs/FOR-DRIVERS.md` that begins with a head, one for each BP number:
+/// their cells without the number.
+fn drivers_table(head: &str) -> Vec<Vec<String>> {
+    let page = Path::new(env!("CARGO_MANIFEST_DIR")).join("../docs/FOR-DRIVERS.md");
+    let page = fs::read_to_string(page).expect("the page for drivers");
+    let table = page.lines().skip_while(|line| !line.starts_with(head));
+    let lines = table.skip(2).take_while(|line| line.starts_with('|'));
+    let lines: Vec<_> = lines
+        .zip(0..)
+        .map(|(line, b)| {
+            let line = line.trim_matches('|');
+            let mut cells = line.split('|').map(|cell| cell.trim().to_string());
+            assert_eq!(cells.next(), Some(format!("{b}")), "{line}");
+            cells.collect()
+        })
+        .collect();
+    assert_eq!(lines.len(), 8);
+    lines
+}
+
+/// The blocks that a cell of such a table names.
+fn named(which: &str) -> Vec<u16> {
+    match which.split_once(" to ") {
+        Some((first, last)) => {
+            let number = |text: &str| text.parse::<u16>().expect("the number of a block");
+            (number(first)..=number(last)).collect()
+        }
+        None => {
+            assert_eq!(which, "none");
+            Vec::new()
+        }
+    }
+}
+
 /// The table of protected blocks in `docs/FOR-DRIVERS.md`: each line of it, on both sides.
 #[test]
 fn the_table_of_protected_blocks() {
-    const HEAD: &str = "| b | divided by | blocks protected | A0h with INV 0 | which |";
-    let page = Path::new(env!("CARGO_MANIFEST_DIR")).join("../docs/FOR-DRIVERS.md");
-    let page = fs::read_to_string(page).expect("the page for drivers");
-    let table = page.lines().skip_while(|line| !line.starts_with(HEAD));
-    let lines: Vec<_> = table
-        .skip(2)
-        .take_while(|line| line.starts_with('|'))
-        .collect();
-    assert_eq!(lines.len(), 8);
-    for (b, line) in (0..).zip(lines) {
-        let cells: Vec<_> = line.split('|').map(str::trim).collect();
-        let [_, number, divisor, count, a0, which, inverted_a0, inverted, _] = cells[..] else {
-            panic!("{line}");
+    let table = drivers_table("| b | divided by | blocks protected | A0h with INV 0 | which |");
+    for (b, line) in (0..).zip(&table) {
+        let [divisor, count, a0, which, inverted_a0, inverted] = &line[..] else {
+            panic!("{line:?}");
         };
-        assert_eq!(number, b.to_string());
         let divided = divisor.parse().map_or(0, |divisor: usize| 512 / divisor);
-        assert_eq!(count, divided.to_string(), "{line}");
-        for (a0, which, inv) in [(a0, which, 0), (inverted_a0, inverted, 4)] {
-            assert_eq!(a0, format!("{:02X}h", b << 3 | inv), "{line}");
-            let blocks: Vec<u16> = match which.split_once(" to ") {
-                Some((first, last)) => {
-                    let number = |text: &str| text.parse::<u16>().expect(line);
-                    (number(first)..=number(last)).collect()
-                }
-                None => {
-                    assert_eq!(which, "none", "{line}");
-                    Vec::new()
-                }
-            };
-            assert_eq!(count, blocks.len().to_string(), "{line}");
+        assert_eq!(*count, divided.to_string(), "{line:?}");
+        for (a0, which, inv) in [(a0, which, 0), (inverted_a0, inverted, INV)] {
+            assert_eq!(*a0, format!("{:02X}h", b << 3 | inv), "{line:?}");
+            let blocks = named(which);
+            assert_eq!(*count, blocks.len().to_string(), "{line:?}");
             protected(blocks_512(), b << 3 | inv, &blocks);
+        }
+    }
+}
+
+/// The table of the second stepping there: each value of A0h in it, and its blocks.
+#[test]
+fn the_table_of_the_second_stepping() {
+    let table = drivers_table("| b | CMP 0, INV 0 | CMP 0, INV 1 | CMP 1, INV 0 | CMP 1, INV 1 |");
+    let part = blocks_512().with_stepping(Stepping::Second);
+    for (b, line) in (0..).zip(&table) {
+        assert_eq!(line.len(), 4, "{line:?}");
+        for (bits, cell) in [0, INV, CMP, CMP | INV].into_iter().zip(line) {
+            let a0 = b << 3 | bits;
+            let (value, which) = cell.split_once(": ").expect("a value and its blocks");
+            assert_eq!(value, format!("{a0:02X}h"), "{line:?}");
+            protected(part, a0, &named(which));
         }
     }
 }

@@ -3,7 +3,6 @@
 
 use std::collections::HashSet;
 use std::error::Error;
-use std::fs;
 
 use sleetanvil::lent::{self, Memory};
 use sleetanvil::page::{self, Sizes};
@@ -465,52 +464,6 @@ fn a_sound_state_goes_by_the_stepping() {
             }
         }
     }
-}
-
-/// The table of the second stepping in `docs/FOR-DRIVERS.md`: each value of A0h in it, and its
-/// blocks, on a part of as many blocks as the FM25S005BI3 has.
-#[test]
-fn the_drivers_table_of_the_second_stepping() {
-    const HEAD: &str = "| b | CMP 0, INV 0 | CMP 0, INV 1 | CMP 1, INV 0 | CMP 1, INV 1 |";
-    let paper = concat!(env!("CARGO_MANIFEST_DIR"), "/../docs/FOR-DRIVERS.md");
-    let paper = fs::read_to_string(paper).expect("the paper for drivers");
-    let table = paper.lines().skip_while(|line| *line != HEAD);
-    let table = table.skip(2).take_while(|line| line.starts_with('|'));
-    let part = Geometry {
-        data: 1,
-        spare: 0,
-        pages: 1,
-        blocks: 512,
-        ..Geometry::bench()
-    };
-    let mut device = idle(part, Stepping::Second);
-    let mut rows = 0;
-    for (b, line) in (0..).zip(table) {
-        let cells: Vec<_> = line.split('|').map(str::trim).collect();
-        let ["", number, plain, inv, cmp, both, ""] = cells[..] else {
-            panic!("{line}");
-        };
-        assert_eq!(number, b.to_string());
-        for (bits, cell) in [(0, plain), (4, inv), (2, cmp), (6, both)] {
-            let a0 = b << 3 | bits;
-            let (value, which) = cell.split_once(": ").expect(line);
-            assert_eq!(value, format!("{a0:02X}h"), "{line}");
-            let expected: Vec<u32> = match which.split_once(" to ") {
-                Some((first, last)) => {
-                    let number = |text: &str| text.parse::<u32>().expect(line);
-                    (number(first)..=number(last)).collect()
-                }
-                None => {
-                    assert_eq!(which, "none", "{line}");
-                    Vec::new()
-                }
-            };
-            device.transfer(&[0x1F, 0xA0, a0]);
-            assert_eq!(protected(&device), expected, "{line}");
-        }
-        rows += 1;
-    }
-    assert_eq!(rows, 8);
 }
 
 #[test]

@@ -14,8 +14,8 @@ use Rattle.columns.proofs.store_at.Reads as store-at-reads
 use Rattle.columns.proofs.store_at.Kinds as store-at-kinds
 use Rattle.columns.proofs.column_of.Reads as column-of-reads
 use Rattle.columns.proofs.column_of.Kinds as column-of-kinds
-use Rattle.columns.proofs.wide.Reads as wide-reads
-use Rattle.columns.proofs.wide.Kinds as wide-kinds
+use Rattle.columns.proofs.wide_byte.Reads as wide-byte-reads
+use Rattle.columns.proofs.wide_byte.Kinds as wide-byte-kinds
 
 pub next-column-one : OneAnswer 0 next-column-kinds.ps next-column-kinds.r next-column-reads.Post
 next-column-one κs a x y s t p q = p ∙ sym q
@@ -32,5 +32,5 @@ store-at-one κs a x y s t p q = (refl, p ∙ sym q)
 pub column-of-one : OneAnswer 0 column-of-kinds.ps column-of-kinds.r column-of-reads.Post
 column-of-one κs a x y s t p q = p ∙ sym q
 
-pub wide-one : OneAnswer 0 wide-kinds.ps wide-kinds.r wide-reads.Post
-wide-one κs a x y s t p q = p ∙ sym q
+pub wide-byte-one : OneAnswer 0 wide-byte-kinds.ps wide-byte-kinds.r wide-byte-reads.Post
+wide-byte-one κs a x y s t p q = p ∙ sym q

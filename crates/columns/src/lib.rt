@@ -50,11 +50,11 @@ pub fn store_at(cache: &mut [u8], c: Column, b: u8)
 pub fn column_of(high: u8, low: u8) -> Column
     ensures { λ r. ⌜ r ≡ columnOf high low ⌝ }
 {
-    Column(wide(high % 16) * 256 + wide(low))
+    Column(wide_byte(high % 16) * 256 + wide_byte(low))
 }
 
 // A byte as a number of 16 bits.
-pub fn wide(b: u8) -> u16
+pub fn wide_byte(b: u8) -> u16
     ensures { λ r. ⌜ r ≡ b ⌝ }
 {
     b as u16

@@ -1,4 +1,5 @@
 pub mod Refused
 pub mod Quiet
 pub mod Works
+pub mod NoPart
 pub mod OneAnswer

@@ -1,4 +1,4 @@
--- Numbers that stand for no state: the stand-in is sound on no part, so that a run of it does nothing. And a part that is not sound.
+-- Numbers that stand for no state: the stand-in is sound on no part, so that a run of it does nothing.
 use mathlib.Core.Bool.{Bool, true, false, cond, not}
 use mathlib.Core.List.{List, []}
 use mathlib.Core.Path.{_≡_, refl, sym, _∙_, ap}
@@ -11,13 +11,12 @@ use Rattle.device.specs.Machine.{machine}
 use Rattle.device.specs.Work.{unitwise}
 use Rattle.device.specs.declared.State.{State}
 use Rattle.part_numbers.specs.Numbers.{partOf}
-use Rattle.face.specs.Face.{stateOf, faceOf, noState, standIn, handedBack}
+use Rattle.face.specs.Face.{stateOf, noState, standIn, handedBack}
 use Rattle.part_numbers.specs.declared.CGeometry.{CGeometry}
 use Rattle.face.specs.declared.CState.{CState}
 use Rattle.face.specs.declared.Told.{Told}
 use Rattle.face.specs.declared.Told.the-variants.{Good, Bad}
-use Rattle.part_numbers.proofs.ThereAndBack.{no-such-stepping}
-use Rattle.face.proofs.ThereAndBack.{face-back, never-sound}
+use Rattle.face.proofs.ThereAndBack.{never-sound}
 use Rattle.refusals.specs.Refusals.{numberOf, checkOf, passed}
 use Rattle.walk.specs.Turns.{nothing}
 use Rattle.model.specs.Runs as model
@@ -29,8 +28,8 @@ use Rattle.beside.specs.Beside.{workOf}
 use Rattle.beside.proofs.Works.{work-refused}
 use Rattle.whole.specs.Demand.{given}
 use Rattle.orderly.specs.Judge.{Judgement, judgementOf}
-use Rattle.sleetanvil.specs.Promises.{BadExactly, PartRefused, SteppingRefused}
-use Rattle.sleetanvil.specs.Runs.{CEnd, CJudgement, faceSeen, faceNothing, shownAs, ranTold, faceRan, unheard, faceUnlogged, workedTold, workedOf, judgedTold, judgedOf, orderlyOf}
+use Rattle.sleetanvil.specs.Promises.{BadExactly}
+use Rattle.sleetanvil.specs.Runs.{CEnd, CJudgement, shownAs, ranTold, faceRan, unheard, faceUnlogged, workedTold, workedOf, judgedTold, judgedOf, orderlyOf}
 
 -- the checks, with the last one out
 stops-at : (g : Geometry) (cells cache counts : ℕ) →
@@ -73,27 +72,6 @@ not-worked : (g : Geometry) (n : ℕ) (cells cache counts : List ℕ) →
     ≡ model.seen (nothing (checkOf g noState (length cells) (length cache) (length counts)) noState) cells cache counts []
 not-worked g n cells cache counts =
     sym (work-refused g n (machine noState cells cache counts) (checkOf g noState (length cells) (length cache) (length counts)) refl (stops g (length cells) (length cache) (length counts)))
-
--- ---- a part that is not sound
-
--- the first check refuses it
-part-stops : (g : Geometry) (s : State) (cells cache counts : ℕ) → soundPart g ≡ false → checkOf g s cells cache counts ≡ BadPart
-unfolding checkOf
-part-stops g s cells cache counts e = rw e
-
-pub part-refused : PartRefused
-unfolding faceRan
-part-refused g c log cells cache counts out e = go (stateOf c) refl
-  where
-    go : (x : Told) → stateOf c ≡ x → ranTold g c x log cells cache counts out ≡ faceSeen (faceNothing 1 c) cells cache counts out
-    go (Good s) q =
-        ap (λ (e : End). shownAs (faceOf (e .answer .state)) e)
-        (sym (run-refused (partOf g) (unitwise (partOf g)) out (machine s cells cache counts) (length out) log BadPart (sym (part-stops (partOf g) s (length cells) (length cache) (length counts) e)) refl))
-        ∙ ap (λ (d : CState). faceSeen (faceNothing 1 d) cells cache counts out) (face-back c s q)
-    go Bad q = rw (part-stops (partOf g) noState (length cells) (length cache) (length counts) e)
-
-pub stepping-refused : SteppingRefused
-stepping-refused g c log cells cache counts out h = part-refused g c log cells cache counts out (no-such-stepping g h)
 
 -- ---- what the model answers, put right, is what the numbers stand for
 

@@ -15,7 +15,7 @@ use Rattle.part_numbers.specs.Numbers.{partOf}
 use Rattle.part_numbers.specs.declared.CGeometry.{CGeometry}
 use Rattle.face.specs.declared.CState.{CState}
 use Rattle.walk.specs.Turns.{takes}
-use Rattle.sleetanvil.specs.Runs.{faceSeen, checkBad, faceNothing, faceRan, unheard, quietOf, workedOf}
+use Rattle.sleetanvil.specs.Runs.{faceSeen, checkBad, faceNothing, faceRan, quiet, unheard, quietOf, workedOf, judgedOf}
 
 -- numbers that stand for no state: the part, the cells, the cache register and the page counts are checked first, and then it is 5
 abbrev pub BadExactly : Type 0
@@ -28,17 +28,22 @@ BadExactly =
     else if not (eqb counts (rows g)) then 4
     else 5)
 
--- a part that is not sound is refused with 1 before all else: nothing is done, and the state's numbers are given back as they came
-abbrev pub PartRefused : Type 0
-PartRefused =
-    (g : CGeometry) (c : CState) (log cells cache counts out : List ℕ) → soundPart (partOf g) ≡ false →
-    faceRan g c log cells cache counts out ≡ faceSeen (faceNothing 1 c) cells cache counts out
+-- a part is turned away: whatever else is handed in, a run, a run that is judged and work are refused with 1, nothing is done, and the state's
+-- numbers are given back as they came. (Events and transfers are runs.)
+abbrev pub TurnedAway : CGeometry → Type 0
+TurnedAway g =
+    (c : CState) (cells cache counts : List ℕ) →
+    ((log out : List ℕ) → faceRan g c log cells cache counts out ≡ faceSeen (faceNothing 1 c) cells cache counts out)
+    × ((log out : List ℕ) → judgedOf g c log cells cache counts out .end ≡ faceSeen (faceNothing 1 c) cells cache counts out)
+    × ((n : ℕ) → workedOf g c n cells cache counts ≡ quiet (faceNothing 1 c) cells cache counts)
 
--- so is a stepping above 1, whatever the part's other numbers are
+-- a part that is not sound is, before all else
+abbrev pub PartRefused : Type 0
+PartRefused = (g : CGeometry) → soundPart (partOf g) ≡ false → TurnedAway g
+
+-- and so is one with a stepping above 1, whatever its other numbers are
 abbrev pub SteppingRefused : Type 0
-SteppingRefused =
-    (g : CGeometry) (c : CState) (log cells cache counts out : List ℕ) → 1 < g .stepping →
-    faceRan g c log cells cache counts out ≡ faceSeen (faceNothing 1 c) cells cache counts out
+SteppingRefused = (g : CGeometry) → 1 < g .stepping → TurnedAway g
 
 -- an event that is no shift is the same whatever output is lent
 abbrev pub AnyOutput : Type 0

@@ -61,7 +61,7 @@ impl Transfer {
     pub fn row(self) -> Row
         ensures { λ r. ⌜ r ≡ rowOf self ⌝ }
     {
-        Row(columns::wide(self.second) * 256 + columns::wide(self.third))
+        Row(columns::wide_byte(self.second) * 256 + columns::wide_byte(self.third))
     }
 
     // The bytes before the first one that moves the column on, or 0 for an instruction without a column.
