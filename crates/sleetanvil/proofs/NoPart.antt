@@ -54,10 +54,11 @@ module _ (g : CGeometry) (c : CState) (log cells cache counts out : List ℕ) wh
       go Bad = refl
 
 pub part-refused : PartRefused
-part-refused g e c cells cache counts =
-    (λ log out. ran-nothing g c log cells cache counts out e,
-      λ log out. judged-end g c log cells cache counts out ∙ ran-nothing g c log cells cache counts out e,
-      λ n. work-record g c n cells cache counts ∙ ap unheard (ran-nothing g c (bytesOf (Units n)) cells cache counts [] e))
+part-refused g e c cells cache counts = (
+  λ log out. ran-nothing g c log cells cache counts out e,
+  λ log out. judged-end g c log cells cache counts out ∙ ran-nothing g c log cells cache counts out e,
+  λ n. work-record g c n cells cache counts ∙ ap unheard (ran-nothing g c (bytesOf (Units n)) cells cache counts [] e),
+)
 
 pub stepping-refused : SteppingRefused
 stepping-refused g h = part-refused g (no-such-stepping g h)
