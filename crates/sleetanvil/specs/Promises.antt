@@ -28,8 +28,8 @@ BadExactly =
     else if not (eqb counts (rows g)) then 4
     else 5)
 
--- a part is turned away: whatever else is handed in, a run, a run that is judged and work are refused with 1, nothing is done, and the state's
--- numbers are given back as they came. (Events and transfers are runs.)
+-- a part is turned away: whatever else is handed in, a run, a run that is judged and work are refused with 1, nothing is done, and the
+-- state's numbers are given back as they came. (Events and transfers are runs.)
 abbrev pub TurnedAway : CGeometry → Type 0
 TurnedAway g =
     (c : CState) (cells cache counts : List ℕ) →
