@@ -24,7 +24,7 @@ use Rattle.refusals.specs.declared.Refusal.the-variants.{BadPart}
 use Rattle.model.specs.Runs.{End}
 use Rattle.model.proofs.Single.{run-refused}
 use Rattle.sleetanvil.specs.Promises.{PartRefused, SteppingRefused}
-use Rattle.sleetanvil.specs.Runs.{CEnd, faceSeen, faceNothing, shownAs, ranTold, faceRan, unheard, judgedTold, judgedOf}
+use Rattle.sleetanvil.specs.Runs.{faceSeen, faceNothing, shownAs, ranTold, faceRan, unheard, judgedTold, judgedOf}
 use Rattle.sleetanvil.proofs.Works.{work-record}
 
 -- the first check refuses it
