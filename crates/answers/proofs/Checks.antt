@@ -6,27 +6,27 @@ use native.Mathlib.Omega.{arith}
 use lib.Dec.{T, eqb}
 use lib.ListN.{length}
 use borrow.Author.Tests.{eqb-true, eqb-false, eq-eqb, ne_eqb, not-true, not-false}
-use Rattle.part.specs.Part.{page, rows, Sound, soundPart}
+use Rattle.part.specs.Part.{page, rows, Sound, sound_part}
 use Rattle.part.specs.declared.Geometry.{Geometry}
-use Rattle.part.proofs.Choice.{cond-keep, T_true, true-T}
+use Rattle.part.proofs.Choice.{cond_keep, T_true, true_T}
 use Rattle.part.proofs.Laws as Laws
 use Rattle.device.specs.Machine.{Machine}
-use Rattle.device.specs.Sound.{SoundState, soundState}
+use Rattle.device.specs.Sound.{SoundState, sound_state}
 use Rattle.kept.proofs.Exactly as Exactly
-use Rattle.refusals.specs.Refusals.{checkOf, passed, checkedAs}
+use Rattle.refusals.specs.Refusals.{check_of, passed, checked_as}
 use Rattle.refusals.specs.declared.Refusal.{Refusal}
 use Rattle.refusals.specs.declared.Refusal.TheVariants.{Done, BadPart, BadCells, BadCache, BadCounts, BadState, BadKind, ShortBody, BadLevel, NoRoom}
 use Rattle.answers.specs.Table.{CellsFit, CacheFits, CountsFit, Fine}
 
 -- ---- a test that fails
 
-not-T-false : (b : Bool) → ¬ T b → b ≡ false
-not-T-false true t = absurd (t tt)
-not-T-false false t = refl
+not_T_false : (b : Bool) → ¬ T b → b ≡ false
+not_T_false true t = absurd (t tt)
+not_T_false false t = refl
 
-false-not-T : (b : Bool) → b ≡ false → ¬ T b
-false-not-T true e t = absurd (let z : ◌≡◌ {A = ℕ} 0 1 = cc in omega arith)
-false-not-T false e t = t
+false_not_T : (b : Bool) → b ≡ false → ¬ T b
+false_not_T true e t = absurd (let z : ◌≡◌ {A = ℕ} 0 1 = cc in omega arith)
+false_not_T false e t = t
 
 -- ---- the checks
 
@@ -45,54 +45,54 @@ module _ (g : Geometry) (m : Machine) where
   Checked NoRoom = ⊥
 
   -- it is so for the answer that they give
-  pub checked : Checked (checkedAs g m)
-  unfolding checkOf
+  pub checked : Checked (checked_as g m)
+  unfolding check_of
   checked =
-      cond-keep Checked (not (soundPart g)) (λ e s. false-not-T (soundPart g) (not-true _ e) ((Laws.sound-exactly g).1 s))
+      cond_keep Checked (not (sound_part g)) (λ e s. false_not_T (sound_part g) (not-true _ e) ((Laws.sound-exactly g).1 s))
       (λ e.
-      let part : Sound g = (Laws.sound-exactly g).0 (true-T (soundPart g) (not-false _ e)) in
-      cond-keep Checked (not (eqb (length m.store.cells) (rows g * page g))) (λ e. (part, eqb-false _ _ (not-true _ e)))
+      let part : Sound g = (Laws.sound-exactly g).0 (true_T (sound_part g) (not-false _ e)) in
+      cond_keep Checked (not (eqb (length m.store.cells) (rows g * page g))) (λ e. (part, eqb-false _ _ (not-true _ e)))
       (λ e.
       let cells : CellsFit g m = record { part = part; cells = eqb-true _ _ (not-false _ e) } in
-      cond-keep Checked (not (eqb (length m.store.cache) (page g))) (λ e. (cells, eqb-false _ _ (not-true _ e)))
+      cond_keep Checked (not (eqb (length m.store.cache) (page g))) (λ e. (cells, eqb-false _ _ (not-true _ e)))
       (λ e.
       let cache : CacheFits g m = record { before = cells; cache = eqb-true _ _ (not-false _ e) } in
-      cond-keep Checked (not (eqb (length m.counts) (rows g))) (λ e. (cache, eqb-false _ _ (not-true _ e)))
+      cond_keep Checked (not (eqb (length m.counts) (rows g))) (λ e. (cache, eqb-false _ _ (not-true _ e)))
       (λ e.
       let counts : CountsFit g m = record { before = cache; counts = eqb-true _ _ (not-false _ e) } in
-      cond-keep Checked (not (soundState g m.state)) (λ e. (counts, λ s. false-not-T (soundState g m.state) (not-true _ e) ((Exactly.sound-exactly g m.state).1 s)))
-      (λ e. record { before = counts; state = (Exactly.sound-exactly g m.state).0 (true-T (soundState g m.state) (not-false _ e)) })))))
+      cond_keep Checked (not (sound_state g m.state)) (λ e. (counts, λ s. false_not_T (sound_state g m.state) (not-true _ e) ((Exactly.sound-exactly g m.state).1 s)))
+      (λ e. record { before = counts; state = (Exactly.sound-exactly g m.state).0 (true_T (sound_state g m.state) (not-false _ e)) })))))
 
-  part-yes : Sound g → soundPart g ≡ true
-  part-yes s = T_true (soundPart g) ((Laws.sound-exactly g).1 s)
+  part_yes : Sound g → sound_part g ≡ true
+  part_yes s = T_true (sound_part g) ((Laws.sound-exactly g).1 s)
 
-  state-yes : SoundState g m.state → soundState g m.state ≡ true
-  state-yes s = T_true (soundState g m.state) ((Exactly.sound-exactly g m.state).1 s)
+  state_yes : SoundState g m.state → sound_state g m.state ≡ true
+  state_yes s = T_true (sound_state g m.state) ((Exactly.sound-exactly g m.state).1 s)
 
-  state-no : ¬ SoundState g m.state → soundState g m.state ≡ false
-  state-no n = not-T-false (soundState g m.state) (λ t. n ((Exactly.sound-exactly g m.state).0 t))
+  state_no : ¬ SoundState g m.state → sound_state g m.state ≡ false
+  state_no n = not_T_false (sound_state g m.state) (λ t. n ((Exactly.sound-exactly g m.state).0 t))
 
   -- no other answer goes with what is known
-  pub checked-only : (r : Refusal) → Checked r → checkedAs g m ≡ r
-  unfolding checkOf
-  checked-only BadPart h = rw (not-T-false (soundPart g) (λ t. h ((Laws.sound-exactly g).0 t)))
-  checked-only BadCells h = rw (part-yes h.0, ne_eqb _ _ h.1)
-  checked-only BadCache h = rw (part-yes h.0.part, eq-eqb _ _ h.0.cells, ne_eqb _ _ h.1)
-  checked-only BadCounts h = rw (part-yes h.0.before.part, eq-eqb _ _ h.0.before.cells, eq-eqb _ _ h.0.cache, ne_eqb _ _ h.1)
-  checked-only BadState h =
+  pub checked_only : (r : Refusal) → Checked r → checked_as g m ≡ r
+  unfolding check_of
+  checked_only BadPart h = rw (not_T_false (sound_part g) (λ t. h ((Laws.sound-exactly g).0 t)))
+  checked_only BadCells h = rw (part_yes h.0, ne_eqb _ _ h.1)
+  checked_only BadCache h = rw (part_yes h.0.part, eq-eqb _ _ h.0.cells, ne_eqb _ _ h.1)
+  checked_only BadCounts h = rw (part_yes h.0.before.part, eq-eqb _ _ h.0.before.cells, eq-eqb _ _ h.0.cache, ne_eqb _ _ h.1)
+  checked_only BadState h =
       let c = h.0 in
-      rw (part-yes c.before.before.part, eq-eqb _ _ c.before.before.cells, eq-eqb _ _ c.before.cache, eq-eqb _ _ c.counts, state-no h.1)
-  checked-only Done h =
+      rw (part_yes c.before.before.part, eq-eqb _ _ c.before.before.cells, eq-eqb _ _ c.before.cache, eq-eqb _ _ c.counts, state_no h.1)
+  checked_only Done h =
       let c = h.before in
-      rw (part-yes c.before.before.part, eq-eqb _ _ c.before.before.cells, eq-eqb _ _ c.before.cache, eq-eqb _ _ c.counts, state-yes h.state)
-  checked-only BadKind h = absurd h
-  checked-only ShortBody h = absurd h
-  checked-only BadLevel h = absurd h
-  checked-only NoRoom h = absurd h
+      rw (part_yes c.before.before.part, eq-eqb _ _ c.before.before.cells, eq-eqb _ _ c.before.cache, eq-eqb _ _ c.counts, state_yes h.state)
+  checked_only BadKind h = absurd h
+  checked_only ShortBody h = absurd h
+  checked_only BadLevel h = absurd h
+  checked_only NoRoom h = absurd h
 
   -- nothing is refused: all the checks hold
-  pub fine : passed (checkedAs g m) ≡ true → Fine g m
-  fine = go (checkedAs g m) checked
+  pub fine : passed (checked_as g m) ≡ true → Fine g m
+  fine = go (checked_as g m) checked
     where
       go : (r : Refusal) → Checked r → passed r ≡ true → Fine g m
       go Done h e = h

@@ -7,47 +7,47 @@ use native.Mathlib.Omega.{arith}
 use lib.Dec.{ltb}
 use borrow.Author.Tests.{lt-ltb, le-ltb, ltb-true, ltb-false}
 use Rattle.part.specs.declared.Geometry.{Geometry}
-use Rattle.part.proofs.Choice.{cond-keep}
+use Rattle.part.proofs.Choice.{cond_keep}
 use Rattle.buslog.specs.Log.{Bytes}
-use Rattle.buslog.specs.Read.{whyNumber, parse}
+use Rattle.buslog.specs.Read.{why_number, parse}
 use Rattle.buslog.specs.declared.Why.{Why}
 use Rattle.buslog.specs.declared.Why.TheVariants as why
 use Rattle.buslog.specs.declared.Record.TheVariants.{Shift}
 use Rattle.device.specs.Machine.{Machine}
 use Rattle.device.specs.Work.{Array}
-use Rattle.refusals.specs.Refusals.{number_of, refusalOf, passed, checkedAs}
-use Rattle.model.specs.Runs.{shiftsIn, Outcome, did, ranOf, run_of}
+use Rattle.refusals.specs.Refusals.{number_of, refusal_of, passed, checked_as}
+use Rattle.model.specs.Runs.{shifts_in, Outcome, did, ran_of, run_of}
 use Rattle.refusals.specs.declared.Refusal.{Refusal}
 use Rattle.refusals.specs.declared.Refusal.TheVariants.{Done, BadPart, BadCells, BadCache, BadCounts, BadState, BadKind, ShortBody, BadLevel, NoRoom}
-use Rattle.model.proofs.Rooms.{shifts-append, fitting-all, fitting-full}
-use Rattle.answers.specs.Table.{Fine, Stops, Full, Line, read-to-its-end, geometry-not-sound, cells-wrong, cache-wrong, counts-wrong, state-not-sound, kind-not-in-table, ends-inside-body, level-above-1, no-room-left}
+use Rattle.model.proofs.Rooms.{shifts_append, fitting_all, fitting_full}
+use Rattle.answers.specs.Table.{Fine, Stops, Full, Line, read_to_its_end, geometry_not_sound, cells_wrong, cache_wrong, counts_wrong, state_not_sound, kind_not_in_table, ends_inside_body, level_above_1, no_room_left}
 use Rattle.answers.specs.Promises.{Exactly}
-use Rattle.answers.proofs.Logs.{stops-parse, full-parse, parse-stops, parse-full}
-use Rattle.answers.proofs.Checks.{Checked, checked, checked-only, fine}
+use Rattle.answers.proofs.Logs.{stops_parse, full_parse, parse_stops, parse_full}
+use Rattle.answers.proofs.Checks.{Checked, checked, checked_only, fine}
 
 module _ (g : Geometry) (arr : Array) (room : ℕ) (log : List ℕ) (m : Machine) where
   -- ---- the run, where it is known what is refused
 
   -- 1 to 5: nothing is done
-  is-refused : (r : Refusal) → passed r ≡ false → Checked g m r → run_of g arr room log m ≡ did g arr m r []
+  is_refused : (r : Refusal) → passed r ≡ false → Checked g m r → run_of g arr room log m ≡ did g arr m r []
   unfolding run_of
-  is-refused r p h = rw (checked-only g m r h, p)
+  is_refused r p h = rw (checked_only g m r h, p)
 
-  pub is-fine : Fine g m → run_of g arr room log m ≡ ranOf g arr room (parse log) m
+  pub is_fine : Fine g m → run_of g arr room log m ≡ ran_of g arr room (parse log) m
   unfolding run_of
-  is-fine f = rw (checked-only g m Done f)
+  is_fine f = rw (checked_only g m Done f)
 
   -- 0, 6, 7 and 8: the records that stand before
-  pub is_stop : Fine g m → (w : Why) (s : Stops log room (whyNumber w)) → run_of g arr room log m ≡ did g arr m (refusalOf w) s.earlier
-  unfolding ranOf
-  is_stop f w s = is-fine f ∙ rw (stops-parse log room w s, le-ltb room (shiftsIn s.earlier) s.roomy, fitting-all room s.earlier s.roomy)
+  pub is_stop : Fine g m → (w : Why) (s : Stops log room (why_number w)) → run_of g arr room log m ≡ did g arr m (refusal_of w) s.earlier
+  unfolding ran_of
+  is_stop f w s = is_fine f ∙ rw (stops_parse log room w s, le-ltb room (shifts_in s.earlier) s.roomy, fitting_all room s.earlier s.roomy)
 
   -- 9
-  pub is-full : Fine g m → (s : Full log room) → run_of g arr room log m ≡ did g arr m NoRoom s.earlier
-  unfolding ranOf shiftsIn
-  is-full f s =
-      let more : room < shiftsIn (s.earlier ++ Shift s.byte ∷ (parse s.rest).records) = rw (shifts-append s.earlier (Shift s.byte ∷ (parse s.rest).records)) (omega (arith, s.used-up)) in
-      is-fine f ∙ rw (full-parse log room s, lt-ltb room _ more, fitting-full room s.earlier s.byte (parse s.rest).records s.used-up)
+  pub is_full : Fine g m → (s : Full log room) → run_of g arr room log m ≡ did g arr m NoRoom s.earlier
+  unfolding ran_of shifts_in
+  is_full f s =
+      let more : room < shifts_in (s.earlier ++ Shift s.byte ∷ (parse s.rest).records) = rw (shifts_append s.earlier (Shift s.byte ∷ (parse s.rest).records)) (omega (arith, s.used_up)) in
+      is_fine f ∙ rw (full_parse log room s, lt-ltb room _ more, fitting_full room s.earlier s.byte (parse s.rest).records s.used_up)
 
   -- ---- the table, line by line
 
@@ -58,52 +58,52 @@ module _ (g : Geometry) (arr : Array) (room : ℕ) (log : List ℕ) (m : Machine
   numbered p = ap (λ (o : Outcome). number_of o.refusal) p
 
   -- a line that holds gives the run its number
-  line-only : (n : ℕ) → Line g room log m n → Numbered n
-  line-only n (read-to-its-end f s) = numbered (is_stop f why.End s)
-  line-only n (geometry-not-sound p) = numbered (is-refused BadPart refl p)
-  line-only n (cells-wrong p q) = numbered (is-refused BadCells refl (p, q))
-  line-only n (cache-wrong p q) = numbered (is-refused BadCache refl (p, q))
-  line-only n (counts-wrong p q) = numbered (is-refused BadCounts refl (p, q))
-  line-only n (state-not-sound p q) = numbered (is-refused BadState refl (p, q))
-  line-only n (kind-not-in-table f s) = numbered (is_stop f why.BadKind s)
-  line-only n (ends-inside-body f s) = numbered (is_stop f why.ShortBody s)
-  line-only n (level-above-1 f s) = numbered (is_stop f why.BadLevel s)
-  line-only n (no-room-left f s) = numbered (is-full f s)
+  line_only : (n : ℕ) → Line g room log m n → Numbered n
+  line_only n (read_to_its_end f s) = numbered (is_stop f why.End s)
+  line_only n (geometry_not_sound p) = numbered (is_refused BadPart refl p)
+  line_only n (cells_wrong p q) = numbered (is_refused BadCells refl (p, q))
+  line_only n (cache_wrong p q) = numbered (is_refused BadCache refl (p, q))
+  line_only n (counts_wrong p q) = numbered (is_refused BadCounts refl (p, q))
+  line_only n (state_not_sound p q) = numbered (is_refused BadState refl (p, q))
+  line_only n (kind_not_in_table f s) = numbered (is_stop f why.BadKind s)
+  line_only n (ends_inside_body f s) = numbered (is_stop f why.ShortBody s)
+  line_only n (level_above_1 f s) = numbered (is_stop f why.BadLevel s)
+  line_only n (no_room_left f s) = numbered (is_full f s)
 
   -- ---- and one of its lines holds
 
   abbrev Lined : Outcome → Type 0
   Lined o = Line g room log m (number_of o.refusal)
 
-  refused-line : (r : Refusal) → passed r ≡ false → Checked g m r → Line g room log m (number_of r)
-  refused-line Done p h = absurd (let z : ◌≡◌ {A = ℕ} 0 1 = cc in omega arith)
-  refused-line BadPart p h = geometry-not-sound h
-  refused-line BadCells p h = cells-wrong h.0 h.1
-  refused-line BadCache p h = cache-wrong h.0 h.1
-  refused-line BadCounts p h = counts-wrong h.0 h.1
-  refused-line BadState p h = state-not-sound h.0 h.1
-  refused-line BadKind p h = absurd h
-  refused-line ShortBody p h = absurd h
-  refused-line BadLevel p h = absurd h
-  refused-line NoRoom p h = absurd h
+  refused_line : (r : Refusal) → passed r ≡ false → Checked g m r → Line g room log m (number_of r)
+  refused_line Done p h = absurd (let z : ◌≡◌ {A = ℕ} 0 1 = cc in omega arith)
+  refused_line BadPart p h = geometry_not_sound h
+  refused_line BadCells p h = cells_wrong h.0 h.1
+  refused_line BadCache p h = cache_wrong h.0 h.1
+  refused_line BadCounts p h = counts_wrong h.0 h.1
+  refused_line BadState p h = state_not_sound h.0 h.1
+  refused_line BadKind p h = absurd h
+  refused_line ShortBody p h = absurd h
+  refused_line BadLevel p h = absurd h
+  refused_line NoRoom p h = absurd h
 
-  stop-line : Fine g m → (w : Why) → Stops log room (whyNumber w) → Line g room log m (number_of (refusalOf w))
-  stop-line f why.End s = read-to-its-end f s
-  stop-line f why.BadKind s = kind-not-in-table f s
-  stop-line f why.ShortBody s = ends-inside-body f s
-  stop-line f why.BadLevel s = level-above-1 f s
+  stop_line : Fine g m → (w : Why) → Stops log room (why_number w) → Line g room log m (number_of (refusal_of w))
+  stop_line f why.End s = read_to_its_end f s
+  stop_line f why.BadKind s = kind_not_in_table f s
+  stop_line f why.ShortBody s = ends_inside_body f s
+  stop_line f why.BadLevel s = level_above_1 f s
 
-  ran_line : Bytes log → Fine g m → Lined (ranOf g arr room (parse log) m)
-  unfolding ranOf
+  ran_line : Bytes log → Fine g m → Lined (ran_of g arr room (parse log) m)
+  unfolding ran_of
   ran_line h f =
-      cond-keep (λ (r : Refusal). Line g room log m (number_of r)) (ltb room (shiftsIn (parse log).records))
-      (λ e. no-room-left f (parse-full log room h (ltb-true _ _ e)))
-      (λ e. stop-line f (parse log).why (parse-stops log room h (ltb-false _ _ e)))
+      cond_keep (λ (r : Refusal). Line g room log m (number_of r)) (ltb room (shifts_in (parse log).records))
+      (λ e. no_room_left f (parse_full log room h (ltb-true _ _ e)))
+      (λ e. stop_line f (parse log).why (parse_stops log room h (ltb-false _ _ e)))
 
-  line-held : Bytes log → Lined (run_of g arr room log m)
+  line_held : Bytes log → Lined (run_of g arr room log m)
   unfolding run_of
-  line-held h =
-      cond-keep Lined (passed (checkedAs g m)) (λ e. ran_line h (fine g m e)) (λ e. refused-line (checkedAs g m) e (checked g m))
+  line_held h =
+      cond_keep Lined (passed (checked_as g m)) (λ e. ran_line h (fine g m e)) (λ e. refused_line (checked_as g m) e (checked g m))
 
 pub exactly : Exactly
-exactly g arr room log h m n = (λ p. subst (Line g room log m) p (line-held g arr room log m h), line-only g arr room log m n)
+exactly g arr room log h m n = (λ p. subst (Line g room log m) p (line_held g arr room log m h), line_only g arr room log m n)

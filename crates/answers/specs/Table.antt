@@ -2,12 +2,12 @@
 use Rattle.std.specs.Prelude.{List, ◌∷◌, ◌++◌, ◌≡◌, ℕ, ◌*◌, ◌≤◌, T, length}
 use Rattle.part.specs.Part.{page, rows, Sound}
 use Rattle.part.specs.declared.Geometry.{Geometry}
-use Rattle.buslog.specs.Log.{written, levelsSound}
+use Rattle.buslog.specs.Log.{written, levels_sound}
 use Rattle.buslog.specs.Read.{Ends}
 use Rattle.buslog.specs.declared.Record.{Record}
 use Rattle.device.specs.Machine.{Machine}
 use Rattle.device.specs.Sound.{SoundState}
-use Rattle.model.specs.Runs.{shiftsIn}
+use Rattle.model.specs.Runs.{shifts_in}
 
 -- ---- the checks, each with those before it
 
@@ -34,31 +34,31 @@ pub record Fine (g : Geometry) (m : Machine) : Type 0 where
 -- short; 8: a WP# level above 1)
 pub record Stops (log : List ℕ) (room n : ℕ) : Type 0 where
   pub earlier : List Record
-  pub levels : T (levelsSound earlier)
+  pub levels : T (levels_sound earlier)
   pub rest : List ℕ
   pub splits : log ≡ written earlier ++ rest
   pub next : Ends rest n
-  pub roomy : shiftsIn earlier ≤ room
+  pub roomy : shifts_in earlier ≤ room
 
 -- the log is the bytes of some records, whose shifts use up the room, and then a shift
 pub record Full (log : List ℕ) (room : ℕ) : Type 0 where
   pub earlier : List Record
-  pub levels : T (levelsSound earlier)
+  pub levels : T (levels_sound earlier)
   pub byte : ℕ
   pub rest : List ℕ
   pub splits : log ≡ written earlier ++ (0x02 ∷ byte ∷ rest)
-  pub used-up : shiftsIn earlier ≡ room
+  pub used_up : shifts_in earlier ≡ room
 
 -- ---- the table: number n is given exactly when its line holds
 
 pub data Line (g : Geometry) (room : ℕ) (log : List ℕ) (m : Machine) : ℕ → Type 0 where
-  read-to-its-end : Fine g m → Stops log room 0 → Line g room log m 0
-  geometry-not-sound : ¬ Sound g → Line g room log m 1
-  cells-wrong : Sound g → ¬ (length m.store.cells ≡ rows g * page g) → Line g room log m 2
-  cache-wrong : CellsFit g m → ¬ (length m.store.cache ≡ page g) → Line g room log m 3
-  counts-wrong : CacheFits g m → ¬ (length m.counts ≡ rows g) → Line g room log m 4
-  state-not-sound : CountsFit g m → ¬ SoundState g m.state → Line g room log m 5
-  kind-not-in-table : Fine g m → Stops log room 6 → Line g room log m 6
-  ends-inside-body : Fine g m → Stops log room 7 → Line g room log m 7
-  level-above-1 : Fine g m → Stops log room 8 → Line g room log m 8
-  no-room-left : Fine g m → Full log room → Line g room log m 9
+  read_to_its_end : Fine g m → Stops log room 0 → Line g room log m 0
+  geometry_not_sound : ¬ Sound g → Line g room log m 1
+  cells_wrong : Sound g → ¬ (length m.store.cells ≡ rows g * page g) → Line g room log m 2
+  cache_wrong : CellsFit g m → ¬ (length m.store.cache ≡ page g) → Line g room log m 3
+  counts_wrong : CacheFits g m → ¬ (length m.counts ≡ rows g) → Line g room log m 4
+  state_not_sound : CountsFit g m → ¬ SoundState g m.state → Line g room log m 5
+  kind_not_in_table : Fine g m → Stops log room 6 → Line g room log m 6
+  ends_inside_body : Fine g m → Stops log room 7 → Line g room log m 7
+  level_above_1 : Fine g m → Stops log room 8 → Line g room log m 8
+  no_room_left : Fine g m → Full log room → Line g room log m 9

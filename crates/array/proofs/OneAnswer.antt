@@ -7,8 +7,8 @@ use Rattle.array.proofs.length_of.Kinds as length-of-kinds
 use Rattle.array.proofs.advance.Reads as advance-reads
 use Rattle.array.proofs.advance.Kinds as advance-kinds
 
-pub length-of-one : OneAnswer 0 length-of-kinds.ps length-of-kinds.r length-of-reads.Post
-length-of-one κs a x y s t p q = p ∙ sym q
+pub length_of_one : OneAnswer 0 length-of-kinds.ps length-of-kinds.r length-of-reads.Post
+length_of_one κs a x y s t p q = p ∙ sym q
 
-pub advance-one : OneEnd 2 advance-kinds.ps advance-kinds.r Store (λ κs s. store s.1.1.1.1.0.now s.1.1.1.1.1.0.now) advance-reads.Post
-advance-one κs a x y s t p q = (p.0 ∙ sym q.0, p.1 ∙ sym q.1)
+pub advance_one : OneEnd 2 advance-kinds.ps advance-kinds.r Store (λ κs s. store s.1.1.1.1.0.now s.1.1.1.1.1.0.now) advance-reads.Post
+advance_one κs a x y s t p q = (p.0 ∙ sym q.0, p.1 ∙ sym q.1)

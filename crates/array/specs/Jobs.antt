@@ -18,15 +18,15 @@ pub record Store : Type 0 where
 abbrev pub store : List ℕ → List ℕ → Store
 store cells cache = record { cells = cells; cache = cache }
 
-abbrev pub withCells : List ℕ → Store → Store
-withCells l s = store l s.cache
+abbrev pub with_cells : List ℕ → Store → Store
+with_cells l s = store l s.cache
 
-abbrev pub withCache : List ℕ → Store → Store
-withCache l s = store s.cells l
+abbrev pub with_cache : List ℕ → Store → Store
+with_cache l s = store s.cells l
 
 -- where a row's page begins, and where its block does
-abbrev pub pageAt : Geometry → Row → ℕ
-pageAt g r = place g r (record { 0 = 0 })
+abbrev pub page_at : Geometry → Row → ℕ
+page_at g r = place g r (record { 0 = 0 })
 
 abbrev pub block_at : Geometry → Row → ℕ
 block_at g r = block g r * (g.pages * page g)
@@ -44,15 +44,15 @@ length_of g Restart = 8
 
 -- read: cache byte i takes the cell; FFh if the row is outside the array
 abbrev pub taken : Geometry → Row → ℕ → Store → Store
-taken g r i s = withCache (set s.cache i (if inside g r then get_or s.cells (pageAt g r + i) 0 else 0xFF)) s
+taken g r i s = with_cache (set s.cache i (if inside g r then get_or s.cells (page_at g r + i) 0 else 0xFF)) s
 
 -- program: cell i becomes itself AND cache byte i
 abbrev pub anded : Geometry → Row → ℕ → Store → Store
-anded g r i s = let p = pageAt g r + i in withCells (set s.cells p (bit_and (get_or s.cells p 0) (get_or s.cache i 0))) s
+anded g r i s = let p = page_at g r + i in with_cells (set s.cells p (bit_and (get_or s.cells p 0) (get_or s.cache i 0))) s
 
 -- erase: byte i of the block becomes FFh
 abbrev pub blanked : Geometry → Row → ℕ → Store → Store
-blanked g r i s = withCells (set s.cells (block_at g r + i) 0xFF) s
+blanked g r i s = with_cells (set s.cells (block_at g r + i) 0xFF) s
 
 -- what unit i of an operation writes; a reset's touches no cell and no cache byte
 unfoldable pub written : Geometry → Job → ℕ → Store → Store
@@ -83,12 +83,12 @@ InArray g Restart = Unit {0}
 
 pub record Going (g : Geometry) (j : Job) (i : ℕ) : Type 0 where
   pub unit_left : i < length_of g j
-  pub in-array : InArray g j
+  pub in_array : InArray g j
 
 -- cells of P·K·N bytes, a cache register of P
 pub record Fits (g : Geometry) (s : Store) : Type 0 where
-  pub cells-long : length s.cells ≡ rows g * page g
-  pub cache-long : length s.cache ≡ page g
+  pub cells_long : length s.cells ≡ rows g * page g
+  pub cache_long : length s.cache ≡ page g
 
 -- what the work of an operation may count on
 pub record Ready (g : Geometry) (j : Job) (i : ℕ) (s : Store) : Type 0 where

@@ -25,17 +25,17 @@ pub record Lent : Type 0 where
 abbrev pub lent : List ℕ → List ℕ → List ℕ → Lent
 lent cells cache counts = record { cells = cells; cache = cache; counts = counts }
 
-pub peek-one : OneAnswer 1 peek-kinds.ps peek-kinds.r peek-reads.Post
-peek-one κs a x y s t p q = p ∙ sym q
+pub peek_one : OneAnswer 1 peek-kinds.ps peek-kinds.r peek-reads.Post
+peek_one κs a x y s t p q = p ∙ sym q
 
-pub operation-length-one : OneAnswer 0 operation-length-kinds.ps operation-length-kinds.r operation-length-reads.Post
-operation-length-one κs a x y s t p q = p ∙ sym q
+pub operation_length_one : OneAnswer 0 operation-length-kinds.ps operation-length-kinds.r operation-length-reads.Post
+operation_length_one κs a x y s t p q = p ∙ sym q
 
-pub units-left-one : OneAnswer 0 units-left-kinds.ps units-left-kinds.r units-left-reads.Post
-units-left-one κs a x y s t p q = p ∙ sym q
+pub units_left_one : OneAnswer 0 units-left-kinds.ps units-left-kinds.r units-left-reads.Post
+units_left_one κs a x y s t p q = p ∙ sym q
 
-pub work-one : OneEnd 3 work-kinds.ps work-kinds.r Lent (λ κs s. lent s.1.1.1.0.now s.1.1.1.1.0.now s.1.1.1.1.1.0.now) work-reads.Post
-work-one κs a x y s t p q = (ap (λ (e : model.End). e.answer) (p ∙ sym q), ap (λ (e : model.End). lent e.cells e.cache e.counts) (p ∙ sym q))
+pub work_one : OneEnd 3 work-kinds.ps work-kinds.r Lent (λ κs s. lent s.1.1.1.0.now s.1.1.1.1.0.now s.1.1.1.1.1.0.now) work-reads.Post
+work_one κs a x y s t p q = (ap (λ (e : model.End). e.answer) (p ∙ sym q), ap (λ (e : model.End). lent e.cells e.cache e.counts) (p ∙ sym q))
 
-pub blank-one : OneEnd 3 blank-kinds.ps blank-kinds.r Lent (λ κs s. lent s.1.0.now s.1.1.0.now s.1.1.1.0.now) blank-reads.Post
-blank-one κs a x y s t p q = (ap (λ (e : Blanked). e.refusal) (p ∙ sym q), ap (λ (e : Blanked). lent e.cells e.cache e.counts) (p ∙ sym q))
+pub blank_one : OneEnd 3 blank-kinds.ps blank-kinds.r Lent (λ κs s. lent s.1.0.now s.1.1.0.now s.1.1.1.0.now) blank-reads.Post
+blank_one κs a x y s t p q = (ap (λ (e : Blanked). e.refusal) (p ∙ sym q), ap (λ (e : Blanked). lent e.cells e.cache e.counts) (p ∙ sym q))

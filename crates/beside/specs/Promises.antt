@@ -2,7 +2,7 @@
 -- memory is ready for a run.
 use Rattle.std.specs.Prelude.{true, not, List, [], ◌∷◌, ◌≡◌, ℕ, suc, ◌+◌, ◌-◌, ◌*◌, eqb, ltb, length}
 use Rattle.part.specs.Choice.{if◌then◌else◌}
-use Rattle.part.specs.Part.{page, rows, soundPart}
+use Rattle.part.specs.Part.{page, rows, sound_part}
 use Rattle.part.specs.declared.Geometry.{Geometry}
 use Rattle.buslog.specs.Log.{bytes_of, written}
 use Rattle.buslog.specs.declared.Record.{Record}
@@ -10,13 +10,13 @@ use Rattle.buslog.specs.declared.Record.TheVariants.{Shift, Units}
 use Rattle.registers.specs.Registers.{oip}
 use Rattle.device.specs.Machine.{Machine, machine}
 use Rattle.device.specs.Work.{Array, units, unitwise}
-use Rattle.device.specs.Step.{powerUp}
-use Rattle.device.specs.Sound.{soundState}
+use Rattle.device.specs.Step.{power_up}
+use Rattle.device.specs.Sound.{sound_state}
 use Rattle.device.specs.declared.State.{State}
-use Rattle.refusals.specs.Refusals.{number_of, passed, checkedAs}
+use Rattle.refusals.specs.Refusals.{number_of, passed, checked_as}
 use Rattle.refusals.specs.declared.Refusal.TheVariants.{Done}
 use Rattle.model.specs.Runs.{run_of}
-use Rattle.beside.specs.Beside.{peekOf, unitsLeft, workOf, blankOf}
+use Rattle.beside.specs.Beside.{peek_of, units_left, work_of, blank_of}
 
 -- ---- the next byte
 
@@ -24,34 +24,34 @@ use Rattle.beside.specs.Beside.{peekOf, unitsLeft, workOf, blankOf}
 abbrev pub PeekExactly : Type 0
 PeekExactly =
     (g : Geometry) (s : State) (cache : List ℕ) →
-    number_of (peekOf g s cache).refusal
-    ≡ (if not (soundPart g) then 1
+    number_of (peek_of g s cache).refusal
+    ≡ (if not (sound_part g) then 1
     else if not (eqb (length cache) (page g)) then 3
-    else if not (soundState g s) then 5
+    else if not (sound_state g s) then 5
     else 0)
 
 -- whatever byte is shifted in next, the byte that the run then puts out is the one told
 abbrev pub NextByte : Type 0
 NextByte =
-    (g : Geometry) (arr : Array) (m : Machine) (b room : ℕ) → passed (checkedAs g m) ≡ true →
-    (run_of g arr (suc room) (bytes_of (Shift b)) m).output ≡ (peekOf g m.state m.store.cache).byte ∷ []
+    (g : Geometry) (arr : Array) (m : Machine) (b room : ℕ) → passed (checked_as g m) ≡ true →
+    (run_of g arr (suc room) (bytes_of (Shift b)) m).output ≡ (peek_of g m.state m.store.cache).byte ∷ []
 
 -- ---- the units left
 
 -- OIP is 1 exactly while units are left
 abbrev pub BusyTold : Type 0
-BusyTold = (g : Geometry) (s : State) → soundPart g ≡ true → soundState g s ≡ true → oip s.regs.c0 ≡ ltb 0 (unitsLeft g s)
+BusyTold = (g : Geometry) (s : State) → sound_part g ≡ true → sound_state g s ≡ true → oip s.regs.c0 ≡ ltb 0 (units_left g s)
 
 -- n units of work leave n fewer, down to none
 abbrev pub LeftAfter : Type 0
-LeftAfter = (g : Geometry) (m : Machine) (n : ℕ) → passed (checkedAs g m) ≡ true → unitsLeft g (units g n m).state ≡ unitsLeft g m.state - n
+LeftAfter = (g : Geometry) (m : Machine) (n : ℕ) → passed (checked_as g m) ≡ true → units_left g (units g n m).state ≡ units_left g m.state - n
 
 -- ---- work
 
 -- work records, one after another
-unfoldable pub worksOf : List ℕ → List Record
-worksOf [] = []
-worksOf (n ∷ ns) = Units n ∷ worksOf ns
+unfoldable pub works_of : List ℕ → List Record
+works_of [] = []
+works_of (n ∷ ns) = Units n ∷ works_of ns
 
 -- their units together
 unfoldable pub together : List ℕ → ℕ
@@ -62,13 +62,13 @@ together (n ∷ ns) = n + together ns
 abbrev pub WorkAdds : Type 0
 WorkAdds =
     (g : Geometry) (m : Machine) (room : ℕ) (ns : List ℕ) →
-    let o = run_of g (unitwise g) room (written (worksOf ns)) m in
-    let p = workOf g (unitwise g) (together ns) m in
+    let o = run_of g (unitwise g) room (written (works_of ns)) m in
+    let p = work_of g (unitwise g) (together ns) m in
     (o.refusal ≡ p.refusal) × (o.machine ≡ p.machine) × (o.output ≡ p.output)
 
 -- and one work record is the same in all that it answers
 abbrev pub WorkOne : Type 0
-WorkOne = (g : Geometry) (m : Machine) (room n : ℕ) → run_of g (unitwise g) room (bytes_of (Units n)) m ≡ workOf g (unitwise g) n m
+WorkOne = (g : Geometry) (m : Machine) (room n : ℕ) → run_of g (unitwise g) room (bytes_of (Units n)) m ≡ work_of g (unitwise g) n m
 
 -- ---- blank memory
 
@@ -76,8 +76,8 @@ WorkOne = (g : Geometry) (m : Machine) (room n : ℕ) → run_of g (unitwise g) 
 abbrev pub BlankExactly : Type 0
 BlankExactly =
     (g : Geometry) (cells cache counts : List ℕ) →
-    number_of (blankOf g cells cache counts).refusal
-    ≡ (if not (soundPart g) then 1
+    number_of (blank_of g cells cache counts).refusal
+    ≡ (if not (sound_part g) then 1
     else if not (eqb (length cells) (rows g * page g)) then 2
     else if not (eqb (length cache) (page g)) then 3
     else if not (eqb (length counts) (rows g)) then 4
@@ -86,6 +86,6 @@ BlankExactly =
 -- and a run from power-up on it is not refused
 abbrev pub BlankReady : Type 0
 BlankReady =
-    (g : Geometry) (cells cache counts : List ℕ) → passed (blankOf g cells cache counts).refusal ≡ true →
-    let b = blankOf g cells cache counts in
-    checkedAs g (machine powerUp b.cells b.cache b.counts) ≡ Done
+    (g : Geometry) (cells cache counts : List ℕ) → passed (blank_of g cells cache counts).refusal ≡ true →
+    let b = blank_of g cells cache counts in
+    checked_as g (machine power_up b.cells b.cache b.counts) ≡ Done

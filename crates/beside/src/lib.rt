@@ -3,7 +3,7 @@ ghost use Rattle.std.specs.Prelude.{[], ◌≡◌};
 ghost use Rattle.device.specs.Machine.{machine};
 ghost use Rattle.device.specs.Work.{unitwise};
 ghost use Rattle.model.specs.Runs.{seen, shown};
-ghost use Rattle.beside.specs.Beside.{peekOf, operationLength, unitsLeft, workOf, blankEnd, blankOf};
+ghost use Rattle.beside.specs.Beside.{peek_of, operation_length, units_left, work_of, blank_end, blank_of};
 
 use array::{Job, Work};
 use device::State;
@@ -20,7 +20,7 @@ pub struct Peeked {
 
 // The byte that the next shift will put on DO, whatever is shifted in.
 pub fn peek(g: Geometry, state: State, cache: &[u8]) -> Peeked
-    ensures { result ≡ peekOf g state cache.now }
+    ensures { result ≡ peek_of g state cache.now }
 {
     if !g.sound() {
         return Peeked {
@@ -45,7 +45,7 @@ pub fn peek(g: Geometry, state: State, cache: &[u8]) -> Peeked
 
 // How many units an operation has on a part; 0 on a part that is not sound.
 pub fn operation_length(g: Geometry, job: Job) -> usize
-    ensures { result ≡ operationLength g job }
+    ensures { result ≡ operation_length g job }
 {
     if !g.sound() {
         return 0;
@@ -55,7 +55,7 @@ pub fn operation_length(g: Geometry, job: Job) -> usize
 
 // How many units the operation in progress has left: 0 while idle, and for a part or a state that is not sound.
 pub fn units_left(g: Geometry, state: State) -> usize
-    ensures { result ≡ unitsLeft g state }
+    ensures { result ≡ units_left g state }
 {
     if !g.sound() {
         return 0;
@@ -80,7 +80,7 @@ pub fn work(
     counts: &mut [u8],
 ) -> Answer
     ensures { seen result cells.new cache.new counts.new []
-        ≡ shown (workOf g (unitwise g) n (machine state cells.old cache.old counts.old)) [] }
+        ≡ shown (work_of g (unitwise g) n (machine state cells.old cache.old counts.old)) [] }
 {
     let k = refusals::check(g, state, cells.len(), cache.len(), counts.len());
     if !refusals::passes(k) {
@@ -98,8 +98,8 @@ pub fn work(
 
 // The memory of a device that was never used: cells and cache register FFh, page counts 0.
 pub fn blank(g: Geometry, cells: &mut [u8], cache: &mut [u8], counts: &mut [u8]) -> Refusal
-    ensures { blankEnd result cells.new cache.new counts.new
-        ≡ blankOf g cells.old cache.old counts.old }
+    ensures { blank_end result cells.new cache.new counts.new
+        ≡ blank_of g cells.old cache.old counts.old }
 {
     let k = refusals::check(g, State::power_up(), cells.len(), cache.len(), counts.len());
     if !refusals::passes(k) {

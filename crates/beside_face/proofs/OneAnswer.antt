@@ -48,50 +48,50 @@ pub record Memory : Type 0 where
 abbrev memory : List ℕ → List ℕ → List ℕ → Memory
 memory cells cache counts = record { cells = cells; cache = cache; counts = counts }
 
-pub sleet-version-one : OneAnswer 0 sleet-version-kinds.ps sleet-version-kinds.r sleet-version-reads.Post
-sleet-version-one κs a x y s t p q = p ∙ sym q
+pub sleet_version_one : OneAnswer 0 sleet-version-kinds.ps sleet-version-kinds.r sleet-version-reads.Post
+sleet_version_one κs a x y s t p q = p ∙ sym q
 
-pub sleet-fm25s005bi3-one : OneAnswer 0 sleet-fm25s005bi3-kinds.ps sleet-fm25s005bi3-kinds.r sleet-fm25s005bi3-reads.Post
-sleet-fm25s005bi3-one κs a x y s t p q = p ∙ sym q
+pub sleet_fm25s005bi3_one : OneAnswer 0 sleet-fm25s005bi3-kinds.ps sleet-fm25s005bi3-kinds.r sleet-fm25s005bi3-reads.Post
+sleet_fm25s005bi3_one κs a x y s t p q = p ∙ sym q
 
-pub sleet-bench-one : OneAnswer 0 sleet-bench-kinds.ps sleet-bench-kinds.r sleet-bench-reads.Post
-sleet-bench-one κs a x y s t p q = p ∙ sym q
+pub sleet_bench_one : OneAnswer 0 sleet-bench-kinds.ps sleet-bench-kinds.r sleet-bench-reads.Post
+sleet_bench_one κs a x y s t p q = p ∙ sym q
 
-pub sleet-geometry-sound-one : OneAnswer 0 sleet-geometry-sound-kinds.ps sleet-geometry-sound-kinds.r sleet-geometry-sound-reads.Post
-sleet-geometry-sound-one κs a x y s t p q = p ∙ sym q
+pub sleet_geometry_sound_one : OneAnswer 0 sleet-geometry-sound-kinds.ps sleet-geometry-sound-kinds.r sleet-geometry-sound-reads.Post
+sleet_geometry_sound_one κs a x y s t p q = p ∙ sym q
 
-pub sleet-cells-length-one : OneAnswer 0 sleet-cells-length-kinds.ps sleet-cells-length-kinds.r sleet-cells-length-reads.Post
-sleet-cells-length-one κs a x y s t p q = p ∙ sym q
+pub sleet_cells_length_one : OneAnswer 0 sleet-cells-length-kinds.ps sleet-cells-length-kinds.r sleet-cells-length-reads.Post
+sleet_cells_length_one κs a x y s t p q = p ∙ sym q
 
-pub sleet-cache-length-one : OneAnswer 0 sleet-cache-length-kinds.ps sleet-cache-length-kinds.r sleet-cache-length-reads.Post
-sleet-cache-length-one κs a x y s t p q = p ∙ sym q
+pub sleet_cache_length_one : OneAnswer 0 sleet-cache-length-kinds.ps sleet-cache-length-kinds.r sleet-cache-length-reads.Post
+sleet_cache_length_one κs a x y s t p q = p ∙ sym q
 
-pub sleet-counts-length-one : OneAnswer 0 sleet-counts-length-kinds.ps sleet-counts-length-kinds.r sleet-counts-length-reads.Post
-sleet-counts-length-one κs a x y s t p q = p ∙ sym q
+pub sleet_counts_length_one : OneAnswer 0 sleet-counts-length-kinds.ps sleet-counts-length-kinds.r sleet-counts-length-reads.Post
+sleet_counts_length_one κs a x y s t p q = p ∙ sym q
 
-pub sleet-power-up-one : OneAnswer 0 sleet-power-up-kinds.ps sleet-power-up-kinds.r sleet-power-up-reads.Post
-sleet-power-up-one κs a x y s t p q = p ∙ sym q
+pub sleet_power_up_one : OneAnswer 0 sleet-power-up-kinds.ps sleet-power-up-kinds.r sleet-power-up-reads.Post
+sleet_power_up_one κs a x y s t p q = p ∙ sym q
 
-pub sleet-state-sound-one : OneAnswer 0 sleet-state-sound-kinds.ps sleet-state-sound-kinds.r sleet-state-sound-reads.Post
-sleet-state-sound-one κs a x y s t p q = p ∙ sym q
+pub sleet_state_sound_one : OneAnswer 0 sleet-state-sound-kinds.ps sleet-state-sound-kinds.r sleet-state-sound-reads.Post
+sleet_state_sound_one κs a x y s t p q = p ∙ sym q
 
-pub sleet-operation-length-one : OneAnswer 0 sleet-operation-length-kinds.ps sleet-operation-length-kinds.r sleet-operation-length-reads.Post
-sleet-operation-length-one κs a x y s t p q = p ∙ sym q
+pub sleet_operation_length_one : OneAnswer 0 sleet-operation-length-kinds.ps sleet-operation-length-kinds.r sleet-operation-length-reads.Post
+sleet_operation_length_one κs a x y s t p q = p ∙ sym q
 
-pub sleet-units-left-one : OneAnswer 0 sleet-units-left-kinds.ps sleet-units-left-kinds.r sleet-units-left-reads.Post
-sleet-units-left-one κs a x y s t p q = p ∙ sym q
+pub sleet_units_left_one : OneAnswer 0 sleet-units-left-kinds.ps sleet-units-left-kinds.r sleet-units-left-reads.Post
+sleet_units_left_one κs a x y s t p q = p ∙ sym q
 
-pub sleet-peek-one : OneAnswer 1 sleet-peek-kinds.ps sleet-peek-kinds.r sleet-peek-reads.Post
-sleet-peek-one κs a x y s t p q = p ∙ sym q
+pub sleet_peek_one : OneAnswer 1 sleet-peek-kinds.ps sleet-peek-kinds.r sleet-peek-reads.Post
+sleet_peek_one κs a x y s t p q = p ∙ sym q
 
-pub sleet-blank-one : OneEnd 3 sleet-blank-kinds.ps sleet-blank-kinds.r Memory (λ κs s. memory s.1.0.now s.1.1.0.now s.1.1.1.0.now) sleet-blank-reads.Post
-sleet-blank-one κs a x y s t p q = (ap (λ (b : CBlank). b.refusal) (p ∙ sym q), ap (λ (b : CBlank). memory b.cells b.cache b.counts) (p ∙ sym q))
+pub sleet_blank_one : OneEnd 3 sleet-blank-kinds.ps sleet-blank-kinds.r Memory (λ κs s. memory s.1.0.now s.1.1.0.now s.1.1.1.0.now) sleet-blank-reads.Post
+sleet_blank_one κs a x y s t p q = (ap (λ (b : CBlank). b.refusal) (p ∙ sym q), ap (λ (b : CBlank). memory b.cells b.cache b.counts) (p ∙ sym q))
 
-pub sleet-next-one : OneAnswer 1 sleet-next-kinds.ps sleet-next-kinds.r sleet-next-reads.Post
-sleet-next-one κs a x y s t p q = p ∙ sym q
+pub sleet_next_one : OneAnswer 1 sleet-next-kinds.ps sleet-next-kinds.r sleet-next-reads.Post
+sleet_next_one κs a x y s t p q = p ∙ sym q
 
-pub sleet-write-one : OneEnd 1 sleet-write-kinds.ps sleet-write-kinds.r (List ℕ) (λ κs s. s.1.0.now) sleet-write-reads.Post
-sleet-write-one κs a x y s t p q = (ap (λ (w : CPut). w.answer) (p ∙ sym q), ap (λ (w : CPut). w.log) (p ∙ sym q))
+pub sleet_write_one : OneEnd 1 sleet-write-kinds.ps sleet-write-kinds.r (List ℕ) (λ κs s. s.1.0.now) sleet-write-reads.Post
+sleet_write_one κs a x y s t p q = (ap (λ (w : CPut). w.answer) (p ∙ sym q), ap (λ (w : CPut). w.log) (p ∙ sym q))
 
-pub sleet-text-one : OneEnd 1 sleet-text-kinds.ps sleet-text-kinds.r (List ℕ) (λ κs s. s.1.0.now) sleet-text-reads.Post
-sleet-text-one κs a x y s t p q = (ap (λ (w : CLaid). w.count) (p ∙ sym q), ap (λ (w : CLaid). w.out) (p ∙ sym q))
+pub sleet_text_one : OneEnd 1 sleet-text-kinds.ps sleet-text-kinds.r (List ℕ) (λ κs s. s.1.0.now) sleet-text-reads.Post
+sleet_text_one κs a x y s t p q = (ap (λ (w : CLaid). w.count) (p ∙ sym q), ap (λ (w : CLaid). w.out) (p ∙ sym q))

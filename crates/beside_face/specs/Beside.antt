@@ -4,14 +4,14 @@ use Rattle.part.specs.Choice.{if◌then◌else◌}
 use Rattle.part.specs.declared.Geometry.{Geometry}
 use Rattle.array.specs.declared.Job.TheVariants.{Read, Program, Erase, Restart}
 use Rattle.part_numbers.specs.Numbers.{part_of}
-use Rattle.face.specs.Face.{row, state_of, standIn}
+use Rattle.face.specs.Face.{row, state_of, stand_in}
 use Rattle.part_numbers.specs.declared.CGeometry.{CGeometry}
 use Rattle.face.specs.declared.CState.{CState}
 use Rattle.face.specs.declared.CPeek.{CPeek}
 use Rattle.face.specs.declared.Told.{Told}
 use Rattle.face.specs.declared.Told.TheVariants.{Good, Bad}
 use Rattle.refusals.specs.Refusals.{number_of}
-use Rattle.beside.specs.Beside.{peekOf, operationLength, unitsLeft, Blanked, blankOf}
+use Rattle.beside.specs.Beside.{peek_of, operation_length, units_left, Blanked, blank_of}
 use Rattle.beside.specs.declared.Peeked.{Peeked}
 
 -- the header's number; the header that had none was the first
@@ -21,28 +21,28 @@ version = 3
 -- ---- the next byte
 
 -- in numbers
-abbrev pub facePeek : Peeked → CPeek
-facePeek p = record { refusal = number_of p.refusal; byte = p.byte }
+abbrev pub face_peek : Peeked → CPeek
+face_peek p = record { refusal = number_of p.refusal; byte = p.byte }
 
 -- numbers that stand for no state are refused as a state that is sound on no part
-abbrev pub peekedOf : CGeometry → CState → List ℕ → CPeek
-peekedOf g c cache = facePeek (peekOf (part_of g) (standIn (state_of c)) cache)
+abbrev pub peeked_of : CGeometry → CState → List ℕ → CPeek
+peeked_of g c cache = face_peek (peek_of (part_of g) (stand_in (state_of c)) cache)
 
 -- ---- the units of an operation
 
 -- by the number of its job: 1 read, 2 program, 3 erase, 4 reset; 0 for any other
 abbrev pub length_at : Geometry → ℕ → ℕ
 length_at g job =
-    if eqb job 1 then operationLength g (Read (row 0))
-    else if eqb job 2 then operationLength g (Program (row 0))
-    else if eqb job 3 then operationLength g (Erase (row 0))
-    else if eqb job 4 then operationLength g Restart
+    if eqb job 1 then operation_length g (Read (row 0))
+    else if eqb job 2 then operation_length g (Program (row 0))
+    else if eqb job 3 then operation_length g (Erase (row 0))
+    else if eqb job 4 then operation_length g Restart
     else 0
 
 -- those left; no state has none
-abbrev pub leftTold : Geometry → Told → ℕ
-leftTold g (Good s) = unitsLeft g s
-leftTold g Bad = 0
+abbrev pub left_told : Geometry → Told → ℕ
+left_told g (Good s) = units_left g s
+left_told g Bad = 0
 
 -- ---- memory that was never used
 
@@ -54,12 +54,12 @@ pub record CBlank : Type 0 where
   pub counts : List ℕ
 
 -- the four together
-abbrev pub faceBlank : ℕ → List ℕ → List ℕ → List ℕ → CBlank
-faceBlank r cells cache counts = record { refusal = r; cells = cells; cache = cache; counts = counts }
+abbrev pub face_blank : ℕ → List ℕ → List ℕ → List ℕ → CBlank
+face_blank r cells cache counts = record { refusal = r; cells = cells; cache = cache; counts = counts }
 
 -- in numbers
-abbrev pub blankedAs : Blanked → CBlank
-blankedAs b = faceBlank (number_of b.refusal) b.cells b.cache b.counts
+abbrev pub blanked_as : Blanked → CBlank
+blanked_as b = face_blank (number_of b.refusal) b.cells b.cache b.counts
 
-abbrev pub blankedOf : CGeometry → List ℕ → List ℕ → List ℕ → CBlank
-blankedOf g cells cache counts = blankedAs (blankOf (part_of g) cells cache counts)
+abbrev pub blanked_of : CGeometry → List ℕ → List ℕ → List ℕ → CBlank
+blanked_of g cells cache counts = blanked_as (blank_of (part_of g) cells cache counts)

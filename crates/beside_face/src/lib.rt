@@ -1,13 +1,13 @@
 // The C functions beside a run: parts, lengths, soundness, the units of an operation, the next byte, blank memory, records and texts. Plain
 // numbers outside; every content is answered.
 ghost use Rattle.std.specs.Prelude.{◌≡◌};
-ghost use Rattle.part.specs.Part.{soundPart, fm25s005bi3, bench};
-ghost use Rattle.device.specs.Step.{powerUp};
-ghost use Rattle.part_numbers.specs.Numbers.{part_of, facePart, cellsLength, cacheLength, countsLength};
-ghost use Rattle.face.specs.Face.{state_of, faceOf, soundTold};
-ghost use Rattle.record_numbers.specs.Records.{foundOf, facePut, written_of};
-ghost use Rattle.texts.specs.Text.{text_of, faceLaid, textLaid};
-ghost use Rattle.beside_face.specs.Beside.{version, peekedOf, facePeek, length_at, leftTold, faceBlank, blankedOf};
+ghost use Rattle.part.specs.Part.{sound_part, fm25s005bi3, bench};
+ghost use Rattle.device.specs.Step.{power_up};
+ghost use Rattle.part_numbers.specs.Numbers.{part_of, face_part, cells_length, cache_length, counts_length};
+ghost use Rattle.face.specs.Face.{state_of, face_of, sound_told};
+ghost use Rattle.record_numbers.specs.Records.{found_of, face_put, written_of};
+ghost use Rattle.texts.specs.Text.{text_of, face_laid, text_laid};
+ghost use Rattle.beside_face.specs.Beside.{version, peeked_of, face_peek, length_at, left_told, face_blank, blanked_of};
 
 use array::Job;
 use beside::Peeked;
@@ -28,7 +28,7 @@ pub extern "C" fn sleet_version() -> u32
 // The part of the datasheet.
 #[unsafe(no_mangle)]
 pub extern "C" fn sleet_fm25s005bi3() -> CGeometry
-    ensures { result ≡ facePart fm25s005bi3 }
+    ensures { result ≡ face_part fm25s005bi3 }
 {
     part_numbers::face_part(Fm25s005bi3::geometry())
 }
@@ -36,7 +36,7 @@ pub extern "C" fn sleet_fm25s005bi3() -> CGeometry
 // The bench part.
 #[unsafe(no_mangle)]
 pub extern "C" fn sleet_bench() -> CGeometry
-    ensures { result ≡ facePart bench }
+    ensures { result ≡ face_part bench }
 {
     part_numbers::face_part(Bench::geometry())
 }
@@ -44,7 +44,7 @@ pub extern "C" fn sleet_bench() -> CGeometry
 // Whether a geometry is sound.
 #[unsafe(no_mangle)]
 pub extern "C" fn sleet_geometry_sound(part: CGeometry) -> bool
-    ensures { result ≡ soundPart (part_of part) }
+    ensures { result ≡ sound_part (part_of part) }
 {
     part_numbers::part_of(part).sound()
 }
@@ -52,7 +52,7 @@ pub extern "C" fn sleet_geometry_sound(part: CGeometry) -> bool
 // The length that cells must have.
 #[unsafe(no_mangle)]
 pub extern "C" fn sleet_cells_length(part: CGeometry) -> usize
-    ensures { result ≡ cellsLength (part_of part) }
+    ensures { result ≡ cells_length (part_of part) }
 {
     part_numbers::cells_length(part)
 }
@@ -60,7 +60,7 @@ pub extern "C" fn sleet_cells_length(part: CGeometry) -> usize
 // The length that the cache register must have.
 #[unsafe(no_mangle)]
 pub extern "C" fn sleet_cache_length(part: CGeometry) -> usize
-    ensures { result ≡ cacheLength (part_of part) }
+    ensures { result ≡ cache_length (part_of part) }
 {
     part_numbers::cache_length(part)
 }
@@ -68,7 +68,7 @@ pub extern "C" fn sleet_cache_length(part: CGeometry) -> usize
 // The length that page counts must have.
 #[unsafe(no_mangle)]
 pub extern "C" fn sleet_counts_length(part: CGeometry) -> usize
-    ensures { result ≡ countsLength (part_of part) }
+    ensures { result ≡ counts_length (part_of part) }
 {
     part_numbers::counts_length(part)
 }
@@ -76,7 +76,7 @@ pub extern "C" fn sleet_counts_length(part: CGeometry) -> usize
 // The power-up state.
 #[unsafe(no_mangle)]
 pub extern "C" fn sleet_power_up() -> CState
-    ensures { result ≡ faceOf powerUp }
+    ensures { result ≡ face_of power_up }
 {
     face::face_of(State::power_up())
 }
@@ -84,7 +84,7 @@ pub extern "C" fn sleet_power_up() -> CState
 // Whether a state is sound on a part.
 #[unsafe(no_mangle)]
 pub extern "C" fn sleet_state_sound(part: CGeometry, state: CState) -> bool
-    ensures { result ≡ soundTold (part_of part) (state_of state) }
+    ensures { result ≡ sound_told (part_of part) (state_of state) }
 {
     face::state_sound(part, state)
 }
@@ -107,7 +107,7 @@ pub extern "C" fn sleet_operation_length(part: CGeometry, job: u8) -> usize
 // How many units the operation in progress has left.
 #[unsafe(no_mangle)]
 pub extern "C" fn sleet_units_left(part: CGeometry, state: CState) -> usize
-    ensures { result ≡ leftTold (part_of part) (state_of state) }
+    ensures { result ≡ left_told (part_of part) (state_of state) }
 {
     let g = part_numbers::part_of(part);
     match face::state_of(state) {
@@ -118,7 +118,7 @@ pub extern "C" fn sleet_units_left(part: CGeometry, state: CState) -> usize
 
 // The next byte in numbers.
 fn peek_of(p: Peeked) -> CPeek
-    ensures { result ≡ facePeek p }
+    ensures { result ≡ face_peek p }
 {
     let why = p.refusal;
     CPeek {
@@ -130,7 +130,7 @@ fn peek_of(p: Peeked) -> CPeek
 // The byte that the next shift will put out.
 #[unsafe(no_mangle)]
 pub extern "C" fn sleet_peek(part: CGeometry, state: CState, cache: &[u8]) -> CPeek
-    ensures { result ≡ peekedOf part state cache.now }
+    ensures { result ≡ peeked_of part state cache.now }
 {
     let x = face::state_of(state);
     let g = part_numbers::part_of(part);
@@ -145,8 +145,8 @@ pub extern "C" fn sleet_blank(
     cache: &mut [u8],
     counts: &mut [u8],
 ) -> u8
-    ensures { faceBlank result cells.new cache.new counts.new
-        ≡ blankedOf part cells.old cache.old counts.old }
+    ensures { face_blank result cells.new cache.new counts.new
+        ≡ blanked_of part cells.old cache.old counts.old }
 {
     let g = part_numbers::part_of(part);
     refusals::number_of(beside::blank(g, cells, cache, counts))
@@ -155,7 +155,7 @@ pub extern "C" fn sleet_blank(
 // The record at a place of a log.
 #[unsafe(no_mangle)]
 pub extern "C" fn sleet_next(log: &[u8], place: usize) -> CFound
-    ensures { result ≡ foundOf log.now place }
+    ensures { result ≡ found_of log.now place }
 {
     record_numbers::found_at(log, place)
 }
@@ -163,7 +163,7 @@ pub extern "C" fn sleet_next(log: &[u8], place: usize) -> CFound
 // One record written at a place of a log.
 #[unsafe(no_mangle)]
 pub extern "C" fn sleet_write(entry: CRecord, log: &mut [u8], place: usize) -> CWrote
-    ensures { facePut result log.new ≡ written_of entry log.old place }
+    ensures { face_put result log.new ≡ written_of entry log.old place }
 {
     record_numbers::write_entry(entry, log, place)
 }
@@ -171,7 +171,7 @@ pub extern "C" fn sleet_write(entry: CRecord, log: &mut [u8], place: usize) -> C
 // What a number of refusal means.
 #[unsafe(no_mangle)]
 pub extern "C" fn sleet_text(refusal: u8, out: &mut [u8]) -> usize
-    ensures { faceLaid result out.new ≡ textLaid (text_of refusal) out.old }
+    ensures { face_laid result out.new ≡ text_laid (text_of refusal) out.old }
 {
     texts::lay_text(refusal, out)
 }

@@ -5,11 +5,11 @@ use mathlib.Core.Path.{◌≡◌, refl, ◌∙◌}
 use Prim.Native.Nat.{ℕ}
 use lib.Dec.{eqb}
 use lib.ListN.{length, length-set}
-use Rattle.part.proofs.Choice.{cond-keep}
+use Rattle.part.proofs.Choice.{cond_keep}
 use Rattle.cardlog.specs.declared.Record.{Record}
 use Rattle.cardlog.specs.declared.Record.TheVariants.{Sent, Power}
 use Rattle.card.specs.Table.{address_of}
-use Rattle.card.specs.Card.{Card, isOpen, cell_at, shut, spends, writable, cellsAfter, bitsAfter, commanded, sent, step, run}
+use Rattle.card.specs.Card.{Card, is_open, cell_at, shut, spends, writable, cells_after, bits_after, commanded, sent, step, run}
 use Rattle.card.specs.declared.Command.{Command}
 use Rattle.card.specs.declared.Command.TheVariants.{WriteWithBit, Write, Protect, ReadWithBit, Read, Count, Compare, Ignored}
 
@@ -20,51 +20,51 @@ abbrev Long : List ℕ → List ℕ → Type 0
 Long l x = length x ≡ length l
 
 -- the cells, by the command
-cells-long : (c : Card) (k : Command) (a d : ℕ) → Long c.cells (cellsAfter c k a d)
-cells-long c WriteWithBit a d = cond-keep (Long c.cells) (writable c.stage c.bits a) (λ e. simp length-set) (λ e. refl)
-cells-long c Write a d = cond-keep (Long c.cells) (writable c.stage c.bits a) (λ e. simp length-set) (λ e. refl)
-cells-long c Count a d = cond-keep (Long c.cells) (spends c.cells c.bits a d) (λ e. simp length-set) (λ e. refl)
-cells-long c Protect a d = refl
-cells-long c ReadWithBit a d = refl
-cells-long c Read a d = refl
-cells-long c Compare a d = refl
-cells-long c Ignored a d = refl
+cells_long : (c : Card) (k : Command) (a d : ℕ) → Long c.cells (cells_after c k a d)
+cells_long c WriteWithBit a d = cond_keep (Long c.cells) (writable c.stage c.bits a) (λ e. simp length-set) (λ e. refl)
+cells_long c Write a d = cond_keep (Long c.cells) (writable c.stage c.bits a) (λ e. simp length-set) (λ e. refl)
+cells_long c Count a d = cond_keep (Long c.cells) (spends c.cells c.bits a d) (λ e. simp length-set) (λ e. refl)
+cells_long c Protect a d = refl
+cells_long c ReadWithBit a d = refl
+cells_long c Read a d = refl
+cells_long c Compare a d = refl
+cells_long c Ignored a d = refl
 
 -- the protect bits, by the command
-shut-long : (bits : List ℕ) (a : ℕ) → Long bits (shut bits a)
+shut_long : (bits : List ℕ) (a : ℕ) → Long bits (shut bits a)
 unfolding shut
-shut-long bits a = simp length-set
+shut_long bits a = simp length-set
 
-bits-long : (c : Card) (k : Command) (a d : ℕ) → Long c.bits (bitsAfter c k a d)
-bits-long c WriteWithBit a d = cond-keep (Long c.bits) (writable c.stage c.bits a) (λ e. shut-long c.bits a) (λ e. refl)
-bits-long c Protect a d = cond-keep (Long c.bits) (isOpen c.stage && eqb (cell_at c.cells a) d) (λ e. shut-long c.bits a) (λ e. refl)
-bits-long c Write a d = refl
-bits-long c ReadWithBit a d = refl
-bits-long c Read a d = refl
-bits-long c Count a d = refl
-bits-long c Compare a d = refl
-bits-long c Ignored a d = refl
+bits_long : (c : Card) (k : Command) (a d : ℕ) → Long c.bits (bits_after c k a d)
+bits_long c WriteWithBit a d = cond_keep (Long c.bits) (writable c.stage c.bits a) (λ e. shut_long c.bits a) (λ e. refl)
+bits_long c Protect a d = cond_keep (Long c.bits) (is_open c.stage && eqb (cell_at c.cells a) d) (λ e. shut_long c.bits a) (λ e. refl)
+bits_long c Write a d = refl
+bits_long c ReadWithBit a d = refl
+bits_long c Read a d = refl
+bits_long c Count a d = refl
+bits_long c Compare a d = refl
+bits_long c Ignored a d = refl
 
 -- ---- a record, and some records
 
 -- one record leaves both as long as they were
-pub step-cells : (c : Card) (e : Record) → length (step c e).cells ≡ length c.cells
+pub step_cells : (c : Card) (e : Record) → length (step c e).cells ≡ length c.cells
 unfolding step commanded
-step-cells c (Sent first second third) = cells-long c (sent first second) (address_of first second) third
-step-cells c Power = refl
+step_cells c (Sent first second third) = cells_long c (sent first second) (address_of first second) third
+step_cells c Power = refl
 
-pub step-bits : (c : Card) (e : Record) → length (step c e).bits ≡ length c.bits
+pub step_bits : (c : Card) (e : Record) → length (step c e).bits ≡ length c.bits
 unfolding step commanded
-step-bits c (Sent first second third) = bits-long c (sent first second) (address_of first second) third
-step-bits c Power = refl
+step_bits c (Sent first second third) = bits_long c (sent first second) (address_of first second) third
+step_bits c Power = refl
 
 -- and so do some records, one after another
-pub run-cells : (es : List Record) (c : Card) → length (run c es).cells ≡ length c.cells
+pub run_cells : (es : List Record) (c : Card) → length (run c es).cells ≡ length c.cells
 unfolding run
-run-cells [] c = refl
-run-cells (e ∷ es) c = run-cells es (step c e) ∙ step-cells c e
+run_cells [] c = refl
+run_cells (e ∷ es) c = run_cells es (step c e) ∙ step_cells c e
 
-pub run-bits : (es : List Record) (c : Card) → length (run c es).bits ≡ length c.bits
+pub run_bits : (es : List Record) (c : Card) → length (run c es).bits ≡ length c.bits
 unfolding run
-run-bits [] c = refl
-run-bits (e ∷ es) c = run-bits es (step c e) ∙ step-bits c e
+run_bits [] c = refl
+run_bits (e ∷ es) c = run_bits es (step c e) ∙ step_bits c e

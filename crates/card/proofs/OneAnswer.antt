@@ -23,17 +23,17 @@ pub record Lent : Type 0 where
 abbrev pub lent : List ℕ → List ℕ → Lent
 lent cells bits = record { cells = cells; bits = bits }
 
-pub address-of-one : OneAnswer 0 address-of-kinds.ps address-of-kinds.r address-of-reads.Post
-address-of-one κs a x y s t p q = p ∙ sym q
+pub address_of_one : OneAnswer 0 address-of-kinds.ps address-of-kinds.r address-of-reads.Post
+address_of_one κs a x y s t p q = p ∙ sym q
 
-pub sent-one : OneAnswer 0 sent-kinds.ps sent-kinds.r sent-reads.Post
-sent-one κs a x y s t p q = p ∙ sym q
+pub sent_one : OneAnswer 0 sent-kinds.ps sent-kinds.r sent-reads.Post
+sent_one κs a x y s t p q = p ∙ sym q
 
-pub answer-length-one : OneAnswer 0 answer-length-kinds.ps answer-length-kinds.r answer-length-reads.Post
-answer-length-one κs a x y s t p q = p ∙ sym q
+pub answer_length_one : OneAnswer 0 answer-length-kinds.ps answer-length-kinds.r answer-length-reads.Post
+answer_length_one κs a x y s t p q = p ∙ sym q
 
-pub perform-one : OneEnd 2 perform-kinds.ps perform-kinds.r Lent (λ κs s. lent s.1.1.1.1.0.now s.1.1.1.1.1.0.now) perform-reads.Post
-perform-one κs a x y s t p q = (ap (λ (c : Card). c.stage) (p ∙ sym q), ap (λ (c : Card). lent c.cells c.bits) (p ∙ sym q))
+pub perform_one : OneEnd 2 perform-kinds.ps perform-kinds.r Lent (λ κs s. lent s.1.1.1.1.0.now s.1.1.1.1.1.0.now) perform-reads.Post
+perform_one κs a x y s t p q = (ap (λ (c : Card). c.stage) (p ∙ sym q), ap (λ (c : Card). lent c.cells c.bits) (p ∙ sym q))
 
-pub answer-one : OneEnd 3 answer-kinds.ps answer-kinds.r (List ℕ) (λ κs s. s.1.1.1.1.1.0.now) answer-reads.Post
-answer-one κs a x y s t p q = (refl, p ∙ sym q)
+pub answer_one : OneEnd 3 answer-kinds.ps answer-kinds.r (List ℕ) (λ κs s. s.1.1.1.1.1.0.now) answer-reads.Post
+answer_one κs a x y s t p q = (refl, p ∙ sym q)

@@ -5,7 +5,7 @@ use Rattle.std.specs.Int.Count.{ones}
 use Rattle.part.specs.Choice.{if◌then◌else◌}
 use Rattle.cardlog.specs.declared.Record.{Record}
 use Rattle.cardlog.specs.declared.Record.TheVariants.{Sent, Power}
-use Rattle.card.specs.Table.{address_of, commandOf, code₁, code₂}
+use Rattle.card.specs.Table.{address_of, command_of, code₁, code₂}
 use Rattle.card.specs.declared.Command.{Command}
 use Rattle.card.specs.declared.Command.TheVariants.{WriteWithBit, Write, Protect, ReadWithBit, Read, Count, Compare, Ignored}
 use Rattle.card.specs.declared.Stage.{Stage}
@@ -21,11 +21,11 @@ abbrev pub card : Stage → List ℕ → List ℕ → Card
 card s cells bits = record { stage = s; cells = cells; bits = bits }
 
 -- the security code has passed
-abbrev pub isOpen : Stage → Bool
-isOpen Fresh = false
-isOpen Counted = false
-isOpen Half = false
-isOpen Open = true
+abbrev pub is_open : Stage → Bool
+is_open Fresh = false
+is_open Counted = false
+is_open Half = false
+is_open Open = true
 
 -- the byte at an address
 abbrev pub cell_at : List ℕ → ℕ → ℕ
@@ -48,40 +48,40 @@ shut bits a = set bits (a / 8) (get_or bits (a / 8) 0 - bit_at bits a * 2 ^ (a %
 -- ---- the counter command
 
 -- the mask clears exactly one bit: the counter AND the mask has one bit fewer
-unfoldable pub clearsOne : ℕ → ℕ → Bool
-clearsOne old mask = eqb (ones old) (ones (bit_and old mask) + 1)
+unfoldable pub clears_one : ℕ → ℕ → Bool
+clears_one old mask = eqb (ones old) (ones (bit_and old mask) + 1)
 
 -- it spends a bit: the counter may change, and the mask clears exactly one
 abbrev pub spends : List ℕ → List ℕ → ℕ → ℕ → Bool
-spends cells bits a mask = free bits a && clearsOne (cell_at cells a) mask
+spends cells bits a mask = free bits a && clears_one (cell_at cells a) mask
 
 -- ---- what a command changes, by its address and its third byte
 
 -- the code has passed, and the byte may change
 abbrev pub writable : Stage → List ℕ → ℕ → Bool
-writable s bits a = isOpen s && free bits a
+writable s bits a = is_open s && free bits a
 
 -- the cells: a write puts in the byte; the counter command the counter AND its mask
-abbrev pub cellsAfter : Card → Command → ℕ → ℕ → List ℕ
-cellsAfter c WriteWithBit a d = if writable c.stage c.bits a then set c.cells a d else c.cells
-cellsAfter c Write a d = if writable c.stage c.bits a then set c.cells a d else c.cells
-cellsAfter c Count a d = if spends c.cells c.bits a d then set c.cells a (bit_and (cell_at c.cells a) d) else c.cells
-cellsAfter c Protect a d = c.cells
-cellsAfter c ReadWithBit a d = c.cells
-cellsAfter c Read a d = c.cells
-cellsAfter c Compare a d = c.cells
-cellsAfter c Ignored a d = c.cells
+abbrev pub cells_after : Card → Command → ℕ → ℕ → List ℕ
+cells_after c WriteWithBit a d = if writable c.stage c.bits a then set c.cells a d else c.cells
+cells_after c Write a d = if writable c.stage c.bits a then set c.cells a d else c.cells
+cells_after c Count a d = if spends c.cells c.bits a d then set c.cells a (bit_and (cell_at c.cells a) d) else c.cells
+cells_after c Protect a d = c.cells
+cells_after c ReadWithBit a d = c.cells
+cells_after c Read a d = c.cells
+cells_after c Compare a d = c.cells
+cells_after c Ignored a d = c.cells
 
 -- the protect bits: 0 with a write that has one, and where the third byte is compared right
-abbrev pub bitsAfter : Card → Command → ℕ → ℕ → List ℕ
-bitsAfter c WriteWithBit a d = if writable c.stage c.bits a then shut c.bits a else c.bits
-bitsAfter c Protect a d = if isOpen c.stage && eqb (cell_at c.cells a) d then shut c.bits a else c.bits
-bitsAfter c Write a d = c.bits
-bitsAfter c ReadWithBit a d = c.bits
-bitsAfter c Read a d = c.bits
-bitsAfter c Count a d = c.bits
-bitsAfter c Compare a d = c.bits
-bitsAfter c Ignored a d = c.bits
+abbrev pub bits_after : Card → Command → ℕ → ℕ → List ℕ
+bits_after c WriteWithBit a d = if writable c.stage c.bits a then shut c.bits a else c.bits
+bits_after c Protect a d = if is_open c.stage && eqb (cell_at c.cells a) d then shut c.bits a else c.bits
+bits_after c Write a d = c.bits
+bits_after c ReadWithBit a d = c.bits
+bits_after c Read a d = c.bits
+bits_after c Count a d = c.bits
+bits_after c Compare a d = c.bits
+bits_after c Ignored a d = c.bits
 
 -- "any other command between .. starts it anew"; passing holds
 abbrev pub anew : Stage → Stage
@@ -92,7 +92,7 @@ anew Open = Open
 
 -- "a counter bit newly cleared" is the first step, whatever was before
 abbrev pub counted : Stage → Bool → Stage
-counted s cleared = if isOpen s then Open else if cleared then Counted else Fresh
+counted s cleared = if is_open s then Open else if cleared then Counted else Fresh
 
 -- "then right compares of 1022 and of 1023"
 abbrev pub compared : Stage → ℕ → Bool → Stage
@@ -102,25 +102,25 @@ compared Half a right = if eqb a code₂ && right then Open else Fresh
 compared Open a right = Open
 
 -- how far the code has been given then
-abbrev pub stageAfter : Card → Command → ℕ → ℕ → Stage
-stageAfter c Count a d = counted c.stage (spends c.cells c.bits a d)
-stageAfter c Compare a d = compared c.stage a (eqb (cell_at c.cells a) d)
-stageAfter c WriteWithBit a d = anew c.stage
-stageAfter c Write a d = anew c.stage
-stageAfter c Protect a d = anew c.stage
-stageAfter c ReadWithBit a d = anew c.stage
-stageAfter c Read a d = anew c.stage
-stageAfter c Ignored a d = anew c.stage
+abbrev pub stage_after : Card → Command → ℕ → ℕ → Stage
+stage_after c Count a d = counted c.stage (spends c.cells c.bits a d)
+stage_after c Compare a d = compared c.stage a (eqb (cell_at c.cells a) d)
+stage_after c WriteWithBit a d = anew c.stage
+stage_after c Write a d = anew c.stage
+stage_after c Protect a d = anew c.stage
+stage_after c ReadWithBit a d = anew c.stage
+stage_after c Read a d = anew c.stage
+stage_after c Ignored a d = anew c.stage
 
 -- one command done
 unfoldable pub commanded : Card → Command → ℕ → ℕ → Card
-commanded c k a d = card (stageAfter c k a d) (cellsAfter c k a d) (bitsAfter c k a d)
+commanded c k a d = card (stage_after c k a d) (cells_after c k a d) (bits_after c k a d)
 
 -- ---- what a command answers
 
 -- a read tells the cell, but of the code 00h until it has passed
 abbrev pub told : Stage → List ℕ → ℕ → ℕ
-told s cells a = if isOpen s || ltb a code₁ then cell_at cells a else 0x00
+told s cells a = if is_open s || ltb a code₁ then cell_at cells a else 0x00
 
 -- "Each command answers one byte, the cell for a read and FFh otherwise; a read with protect bit answers a second byte, 00h or 01h."
 abbrev pub answer_of : Card → Command → ℕ → List ℕ
@@ -134,21 +134,21 @@ answer_of c Compare a = 0xFF ∷ []
 answer_of c Ignored a = 0xFF ∷ []
 
 -- its length
-abbrev pub answerLength : Command → ℕ
-answerLength ReadWithBit = 2
-answerLength WriteWithBit = 1
-answerLength Write = 1
-answerLength Protect = 1
-answerLength Read = 1
-answerLength Count = 1
-answerLength Compare = 1
-answerLength Ignored = 1
+abbrev pub answer_length : Command → ℕ
+answer_length ReadWithBit = 2
+answer_length WriteWithBit = 1
+answer_length Write = 1
+answer_length Protect = 1
+answer_length Read = 1
+answer_length Count = 1
+answer_length Compare = 1
+answer_length Ignored = 1
 
 -- ---- a record
 
 -- the command that three bytes are
 abbrev pub sent : ℕ → ℕ → Command
-sent first second = commandOf (first % 64) (address_of first second)
+sent first second = command_of (first % 64) (address_of first second)
 
 -- power lost undoes the steps and the passing, and keeps cells and bits
 abbrev pub unpowered : Card → Card
@@ -161,7 +161,7 @@ step c Power = unpowered c
 
 -- the output room that a record takes
 abbrev pub takes : Record → ℕ
-takes (Sent first second third) = answerLength (sent first second)
+takes (Sent first second third) = answer_length (sent first second)
 takes Power = 0
 
 -- the bytes that a record puts out

@@ -23,8 +23,8 @@ abbrev pub code₂ : ℕ
 code₂ = 1023
 
 -- the table, line by line; two of its lines name the addresses, and a command of theirs elsewhere is in no line
-unfoldable pub commandOf : ℕ → ℕ → Command
-commandOf w a =
+unfoldable pub command_of : ℕ → ℕ → Command
+command_of w a =
     if eqb w (word 1 0 0 0 1 1) then WriteWithBit
     else if eqb w (word 1 1 0 0 1 1) then Write
     else if eqb w (word 0 0 0 0 1 1) then Protect

@@ -3,8 +3,8 @@ ghost use Rattle.std.specs.Prelude.{◌&&◌, ◌≡◌, ◌+◌, ◌-◌, ◌*�
 ghost use Rattle.std.specs.Int.Bits.{bit_and};
 ghost use Rattle.part.specs.Choice.{if◌then◌else◌};
 ghost use Rattle.buslog.specs.Write.{over};
-ghost use Rattle.card.specs.Table.{address_of, commandOf};
-ghost use Rattle.card.specs.Card.{card, isOpen, cell_at, bit_at, shut, clearsOne, spends, writable, anew, counted, compared, commanded, told, answer_of, answerLength, sent};
+ghost use Rattle.card.specs.Table.{address_of, command_of};
+ghost use Rattle.card.specs.Card.{card, is_open, cell_at, bit_at, shut, clears_one, spends, writable, anew, counted, compared, commanded, told, answer_of, answer_length, sent};
 
 // How far the security code has been given: no step taken, a counter bit newly cleared, the first byte compared right too, passed.
 #[derive(Drop)]
@@ -31,7 +31,7 @@ pub enum Command {
 impl Stage {
     // Whether the code has passed.
     fn is_open(self) -> bool
-        ensures { result ≡ isOpen self }
+        ensures { result ≡ is_open self }
     {
         match self {
             Stage::Fresh => false,
@@ -104,7 +104,7 @@ pub fn address_of(first: u8, second: u8) -> usize
 
 // The command of a control word at an address.
 fn command_of(word: u8, a: usize) -> Command
-    ensures { result ≡ commandOf word a }
+    ensures { result ≡ command_of word a }
 {
     match word {
         0x31 => Command::WriteWithBit,
@@ -140,7 +140,7 @@ pub fn sent(first: u8, second: u8) -> Command
 
 // How many bytes a command answers.
 pub fn answer_length(k: Command) -> usize
-    ensures { result ≡ answerLength k }
+    ensures { result ≡ answer_length k }
 {
     match k {
         Command::WriteWithBit => 1,
@@ -193,7 +193,7 @@ fn shut(bits: &mut [u8], a: usize)
 
 // Whether a mask clears exactly one bit of the counter.
 fn clears_one(old: u8, mask: u8) -> bool
-    ensures { result ≡ clearsOne old mask }
+    ensures { result ≡ clears_one old mask }
 {
     u8::count_ones(old) == u8::count_ones(old & mask) + 1
 }
@@ -236,7 +236,7 @@ fn write_with_bit(stage: Stage, a: usize, d: u8, cells: &mut [u8], bits: &mut [u
 // The protect bit made 0 where the byte is as given.
 fn protect(stage: Stage, a: usize, d: u8, cells: &[u8], bits: &mut [u8])
     requires { (a < length cells.now) × (a / 8 < length bits.old) }
-    ensures { bits.new ≡ (if isOpen stage && eqb (cell_at cells.now a) d then shut bits.old a else bits.old) }
+    ensures { bits.new ≡ (if is_open stage && eqb (cell_at cells.now a) d then shut bits.old a else bits.old) }
 {
     if !stage.is_open() {
         return;
@@ -326,7 +326,7 @@ pub fn answer(
     out: &mut [u8],
     at: usize,
 )
-    requires { (a < length cells.now) × (a / 8 < length bits.now) × (at + answerLength k ≤ length out.old) }
+    requires { (a < length cells.now) × (a / 8 < length bits.now) × (at + answer_length k ≤ length out.old) }
     ensures { out.new ≡ over out.old at (answer_of (card stage cells.now bits.now) k a) }
 {
     match k {

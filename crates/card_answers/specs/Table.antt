@@ -23,13 +23,13 @@ pub record Full (log : List ℕ) (room : ℕ) : Type 0 where
   pub rest : List ℕ
   pub splits : log ≡ written earlier ++ (bytes_of next ++ rest)
   pub roomy : room_for earlier ≤ room
-  pub used-up : room < room_for earlier + takes next
+  pub used_up : room < room_for earlier + takes next
 
 -- number n is given exactly when its line holds
 pub data Line (room : ℕ) (log : List ℕ) (c : Card) : ℕ → Type 0 where
-  read-to-its-end : Fits c → Stops log room 0 → Line room log c 0
-  cells-wrong : ¬ (length c.cells ≡ 1024) → Line room log c 17
-  bits-wrong : length c.cells ≡ 1024 → ¬ (length c.bits ≡ 128) → Line room log c 18
-  kind-not-in-table : Fits c → Stops log room 6 → Line room log c 6
-  ends-inside-body : Fits c → Stops log room 7 → Line room log c 7
-  no-room-left : Fits c → Full log room → Line room log c 9
+  read_to_its_end : Fits c → Stops log room 0 → Line room log c 0
+  cells_wrong : ¬ (length c.cells ≡ 1024) → Line room log c 17
+  bits_wrong : length c.cells ≡ 1024 → ¬ (length c.bits ≡ 128) → Line room log c 18
+  kind_not_in_table : Fits c → Stops log room 6 → Line room log c 6
+  ends_inside_body : Fits c → Stops log room 7 → Line room log c 7
+  no_room_left : Fits c → Full log room → Line room log c 9

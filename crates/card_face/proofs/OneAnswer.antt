@@ -14,11 +14,11 @@ use Rattle.card_face.proofs.sleet_card_command.Kinds as command-kinds
 abbrev lent_of : CEnd → Lent
 lent_of e = lent e.cells e.bits e.out
 
-pub power-up-one : OneAnswer 0 power-up-kinds.ps power-up-kinds.r power-up-reads.Post
-power-up-one κs a x y s t p q = p ∙ sym q
+pub power_up_one : OneAnswer 0 power-up-kinds.ps power-up-kinds.r power-up-reads.Post
+power_up_one κs a x y s t p q = p ∙ sym q
 
-pub run-one : OneEnd 4 run-kinds.ps run-kinds.r Lent (λ κs s. lent s.1.1.0.now s.1.1.1.0.now s.1.1.1.1.0.now) run-reads.Post
-run-one κs a x y s t p q = (ap (λ (e : CEnd). e.answer) (p ∙ sym q), ap lent_of (p ∙ sym q))
+pub run_one : OneEnd 4 run-kinds.ps run-kinds.r Lent (λ κs s. lent s.1.1.0.now s.1.1.1.0.now s.1.1.1.1.0.now) run-reads.Post
+run_one κs a x y s t p q = (ap (λ (e : CEnd). e.answer) (p ∙ sym q), ap lent_of (p ∙ sym q))
 
-pub command-one : OneEnd 3 command-kinds.ps command-kinds.r Lent (λ κs s. lent s.1.1.1.1.0.now s.1.1.1.1.1.0.now s.1.1.1.1.1.1.0.now) command-reads.Post
-command-one κs a x y s t p q = (ap (λ (e : CEnd). e.answer) (p ∙ sym q), ap lent_of (p ∙ sym q))
+pub command_one : OneEnd 3 command-kinds.ps command-kinds.r Lent (λ κs s. lent s.1.1.1.1.0.now s.1.1.1.1.1.0.now s.1.1.1.1.1.1.0.now) command-reads.Post
+command_one κs a x y s t p q = (ap (λ (e : CEnd). e.answer) (p ∙ sym q), ap lent_of (p ∙ sym q))

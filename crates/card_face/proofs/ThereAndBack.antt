@@ -4,23 +4,23 @@ use Prim.Native.Nat.{ℕ, zero, suc, ◌≤◌}
 use native.Mathlib.Omega.{arith}
 use Rattle.card.specs.declared.Stage.{Stage}
 use Rattle.card.specs.declared.Stage.TheVariants.{Fresh, Counted, Half, Open}
-use Rattle.card_face.specs.Face.{stageNumber, stageOf}
+use Rattle.card_face.specs.Face.{stage_number, stage_of}
 use Rattle.card_face.specs.Promises.{ThereAndBack}
 
-stage-back : (s : Stage) → stageOf (stageNumber s) ≡ s
-unfolding stageOf
-stage-back Fresh = refl
-stage-back Counted = refl
-stage-back Half = refl
-stage-back Open = refl
+stage_back : (s : Stage) → stage_of (stage_number s) ≡ s
+unfolding stage_of
+stage_back Fresh = refl
+stage_back Counted = refl
+stage_back Half = refl
+stage_back Open = refl
 
-number-back : (n : ℕ) → n ≤ 3 → stageNumber (stageOf n) ≡ n
-unfolding stageOf
-number-back zero h = refl
-number-back (suc zero) h = refl
-number-back (suc (suc zero)) h = refl
-number-back (suc (suc (suc zero))) h = refl
-number-back (suc (suc (suc (suc n)))) h = absurd (omega arith)
+number_back : (n : ℕ) → n ≤ 3 → stage_number (stage_of n) ≡ n
+unfolding stage_of
+number_back zero h = refl
+number_back (suc zero) h = refl
+number_back (suc (suc zero)) h = refl
+number_back (suc (suc (suc zero))) h = refl
+number_back (suc (suc (suc (suc n)))) h = absurd (omega arith)
 
 pub there_and_back : ThereAndBack
-there_and_back = (stage-back, number-back)
+there_and_back = (stage_back, number_back)

@@ -11,21 +11,21 @@ use Rattle.card_face.specs.declared.CCard.{CCard}
 use Rattle.card_face.specs.declared.CCardAnswer.{CCardAnswer}
 
 -- the number of a stage, and the stage of a number
-abbrev pub stageNumber : Stage → ℕ
-stageNumber Fresh = 0
-stageNumber Counted = 1
-stageNumber Half = 2
-stageNumber Open = 3
+abbrev pub stage_number : Stage → ℕ
+stage_number Fresh = 0
+stage_number Counted = 1
+stage_number Half = 2
+stage_number Open = 3
 
-unfoldable pub stageOf : ℕ → Stage
-stageOf n = if eqb n 0 then Fresh else if eqb n 1 then Counted else if eqb n 2 then Half else Open
+unfoldable pub stage_of : ℕ → Stage
+stage_of n = if eqb n 0 then Fresh else if eqb n 1 then Counted else if eqb n 2 then Half else Open
 
-abbrev pub faceCard : Stage → CCard
-faceCard s = record { stage = stageNumber s }
+abbrev pub face_card : Stage → CCard
+face_card s = record { stage = stage_number s }
 
 -- an answer in numbers
-abbrev pub faceAnswer : Answer → CCardAnswer
-faceAnswer a = record { records = a.records; used = a.used; written = a.written; card = faceCard a.stage; refusal = number_of a.refusal }
+abbrev pub face_answer : Answer → CCardAnswer
+face_answer a = record { records = a.records; used = a.used; written = a.written; card = face_card a.stage; refusal = number_of a.refusal }
 
 -- what the caller sees: the answer, and every byte of the lent memory
 pub record CEnd : Type 0 where
@@ -34,22 +34,22 @@ pub record CEnd : Type 0 where
   pub bits : List ℕ
   pub out : List ℕ
 
-abbrev pub faceSeen : CCardAnswer → List ℕ → List ℕ → List ℕ → CEnd
-faceSeen a cells bits out = record { answer = a; cells = cells; bits = bits; out = out }
+abbrev pub face_seen : CCardAnswer → List ℕ → List ℕ → List ℕ → CEnd
+face_seen a cells bits out = record { answer = a; cells = cells; bits = bits; out = out }
 
-abbrev pub faceEnd : End → CEnd
-faceEnd e = faceSeen (faceAnswer e.answer) e.cells e.bits e.out
+abbrev pub face_end : End → CEnd
+face_end e = face_seen (face_answer e.answer) e.cells e.bits e.out
 
 -- a number above 3 is no stage: 5, after 17 and 18
-unfoldable pub refusedAs : ℕ → ℕ → ℕ
-refusedAs cells bits = if not (eqb cells 1024) then 17 else if not (eqb bits 128) then 18 else 5
+unfoldable pub refused_as : ℕ → ℕ → ℕ
+refused_as cells bits = if not (eqb cells 1024) then 17 else if not (eqb bits 128) then 18 else 5
 
 -- nothing done: all counts 0, the card returned as given
-abbrev pub faceRefused : CCard → ℕ → CCardAnswer
-faceRefused k refusal = record { records = 0; used = 0; written = 0; card = k; refusal = refusal }
+abbrev pub face_refused : CCard → ℕ → CCardAnswer
+face_refused k refusal = record { records = 0; used = 0; written = 0; card = k; refusal = refusal }
 
 -- a run
-unfoldable pub faceRun : CCard → List ℕ → List ℕ → List ℕ → List ℕ → CEnd
-faceRun k log cells bits out =
-    if leb k.stage 3 then faceEnd (shown (run_of (length out) log (card (stageOf k.stage) cells bits)) out)
-    else faceSeen (faceRefused k (refusedAs (length cells) (length bits))) cells bits out
+unfoldable pub face_run : CCard → List ℕ → List ℕ → List ℕ → List ℕ → CEnd
+face_run k log cells bits out =
+    if leb k.stage 3 then face_end (shown (run_of (length out) log (card (stage_of k.stage) cells bits)) out)
+    else face_seen (face_refused k (refused_as (length cells) (length bits))) cells bits out

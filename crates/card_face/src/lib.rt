@@ -3,7 +3,7 @@ ghost use Rattle.std.specs.Prelude.{◌≡◌};
 ghost use Rattle.cardlog.specs.Log.{bytes_of};
 ghost use Rattle.cardlog.specs.declared.Record.TheVariants.{Sent};
 ghost use Rattle.card.specs.declared.Stage.TheVariants.{Fresh};
-ghost use Rattle.card_face.specs.Face.{stageNumber, stageOf, faceCard, faceAnswer, refusedAs, faceRefused, faceSeen, faceRun};
+ghost use Rattle.card_face.specs.Face.{stage_number, stage_of, face_card, face_answer, refused_as, face_refused, face_seen, face_run};
 
 use card::Stage;
 use slot::Answer;
@@ -28,7 +28,7 @@ pub struct CCardAnswer {
 
 // The number of a stage.
 fn number_of(s: Stage) -> u8
-    ensures { result ≡ stageNumber s }
+    ensures { result ≡ stage_number s }
 {
     match s {
         Stage::Fresh => 0,
@@ -40,7 +40,7 @@ fn number_of(s: Stage) -> u8
 
 // The stage of a number, of 0 to 3.
 fn stage_of(n: u8) -> Stage
-    ensures { result ≡ stageOf n }
+    ensures { result ≡ stage_of n }
 {
     match n {
         0 => Stage::Fresh,
@@ -52,7 +52,7 @@ fn stage_of(n: u8) -> Stage
 
 // The card at a stage.
 fn card_at(s: Stage) -> CCard
-    ensures { result ≡ faceCard s }
+    ensures { result ≡ face_card s }
 {
     CCard {
         stage: number_of(s),
@@ -61,7 +61,7 @@ fn card_at(s: Stage) -> CCard
 
 // An answer in numbers.
 fn answer_of(a: Answer) -> CCardAnswer
-    ensures { result ≡ faceAnswer a }
+    ensures { result ≡ face_answer a }
 {
     let s = a.stage;
     let why = a.refusal;
@@ -76,7 +76,7 @@ fn answer_of(a: Answer) -> CCardAnswer
 
 // The refusal of a number that is no stage: 17 and 18 come before it.
 fn refused(cells: usize, bits: usize) -> u8
-    ensures { result ≡ refusedAs cells bits }
+    ensures { result ≡ refused_as cells bits }
 {
     if cells != 1024 {
         return 17;
@@ -89,7 +89,7 @@ fn refused(cells: usize, bits: usize) -> u8
 
 // The answer where nothing was done.
 fn nothing(card: CCard, refusal: u8) -> CCardAnswer
-    ensures { result ≡ faceRefused card refusal }
+    ensures { result ≡ face_refused card refusal }
 {
     CCardAnswer {
         records: 0,
@@ -103,7 +103,7 @@ fn nothing(card: CCard, refusal: u8) -> CCardAnswer
 // A card to which power has just come.
 #[unsafe(no_mangle)]
 pub extern "C" fn sleet_card_power_up() -> CCard
-    ensures { result ≡ faceCard Fresh }
+    ensures { result ≡ face_card Fresh }
 {
     card_at(Stage::Fresh)
 }
@@ -117,8 +117,8 @@ pub extern "C" fn sleet_card_run(
     bits: &mut [u8],
     out: &mut [u8],
 ) -> CCardAnswer
-    ensures { faceSeen result cells.new bits.new out.new
-        ≡ faceRun card log.now cells.old bits.old out.old }
+    ensures { face_seen result cells.new bits.new out.new
+        ≡ face_run card log.now cells.old bits.old out.old }
 {
     if 3 < card.stage {
         return nothing(card, refused(cells.len(), bits.len()));
@@ -137,8 +137,8 @@ pub extern "C" fn sleet_card_command(
     bits: &mut [u8],
     out: &mut [u8],
 ) -> CCardAnswer
-    ensures { faceSeen result cells.new bits.new out.new
-        ≡ faceRun card (bytes_of (Sent first second third)) cells.old bits.old out.old }
+    ensures { face_seen result cells.new bits.new out.new
+        ≡ face_run card (bytes_of (Sent first second third)) cells.old bits.old out.old }
 {
     if 3 < card.stage {
         return nothing(card, refused(cells.len(), bits.len()));

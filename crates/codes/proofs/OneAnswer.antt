@@ -12,17 +12,17 @@ use Rattle.codes.proofs.let_in.Kinds as let-in-kinds
 use Rattle.codes.proofs.heard_as.Reads as heard-as-reads
 use Rattle.codes.proofs.heard_as.Kinds as heard-as-kinds
 
-pub instruction-of-one : OneAnswer 0 instruction-of-kinds.ps instruction-of-kinds.r instruction-of-reads.Post
-instruction-of-one κs a x y s t p q = p ∙ sym q
+pub instruction_of_one : OneAnswer 0 instruction-of-kinds.ps instruction-of-kinds.r instruction-of-reads.Post
+instruction_of_one κs a x y s t p q = p ∙ sym q
 
-pub byte-of-one : OneAnswer 0 byte-of-kinds.ps byte-of-kinds.r byte-of-reads.Post
-byte-of-one κs a x y s t p q = p ∙ sym q
+pub byte_of_one : OneAnswer 0 byte-of-kinds.ps byte-of-kinds.r byte-of-reads.Post
+byte_of_one κs a x y s t p q = p ∙ sym q
 
-pub form-bytes-one : OneAnswer 0 form-bytes-kinds.ps form-bytes-kinds.r form-bytes-reads.Post
-form-bytes-one κs a x y s t p q = p ∙ sym q
+pub form_bytes_one : OneAnswer 0 form-bytes-kinds.ps form-bytes-kinds.r form-bytes-reads.Post
+form_bytes_one κs a x y s t p q = p ∙ sym q
 
-pub let-in-one : OneAnswer 0 let-in-kinds.ps let-in-kinds.r let-in-reads.Post
-let-in-one κs a x y s t p q = p ∙ sym q
+pub let_in_one : OneAnswer 0 let-in-kinds.ps let-in-kinds.r let-in-reads.Post
+let_in_one κs a x y s t p q = p ∙ sym q
 
-pub heard-as-one : OneAnswer 0 heard-as-kinds.ps heard-as-kinds.r heard-as-reads.Post
-heard-as-one κs a x y s t p q = p ∙ sym q
+pub heard_as_one : OneAnswer 0 heard-as-kinds.ps heard-as-kinds.r heard-as-reads.Post
+heard_as_one κs a x y s t p q = p ∙ sym q

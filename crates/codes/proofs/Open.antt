@@ -11,5 +11,5 @@ use Rattle.codes.specs.Codes.{open?}
 pub among : (b : ℕ) → OneOf (0x0F ∷ 0x9F ∷ 0xFF ∷ []) b → open? b ≡ true
 among b = ⊎_elim (λ e. rw e) (⊎_elim (λ e. rw e) (λ e. rw e))
 
-pub not-among : (b : ℕ) → (OneOf (0x0F ∷ 0x9F ∷ 0xFF ∷ []) b → ⊥) → open? b ≡ false
-not-among b n = rw (ne_eqb b 0x0F (λ e. n (inl e)), ne_eqb b 0x9F (λ e. n (inr (inl e))), ne_eqb b 0xFF (λ e. n (inr (inr e))))
+pub not_among : (b : ℕ) → (OneOf (0x0F ∷ 0x9F ∷ 0xFF ∷ []) b → ⊥) → open? b ≡ false
+not_among b n = rw (ne_eqb b 0x0F (λ e. n (inl e)), ne_eqb b 0x9F (λ e. n (inr (inl e))), ne_eqb b 0xFF (λ e. n (inr (inr e))))

@@ -5,12 +5,12 @@ use Rattle.codes.specs.declared.Instruction.{Instruction}
 use Rattle.codes.specs.declared.Instruction.TheVariants.{Ignored, WriteEnable, WriteDisable, GetFeature, SetFeature, ReadId, PageRead, ReadCache, Load, LoadRandom, Execute, BlockErase, Reset}
 
 -- no byte: it stands for what is ignored
-abbrev pub noByte : ℕ
-noByte = 256
+abbrev pub no_byte : ℕ
+no_byte = 256
 
 -- the paper's byte of an instruction (03h and 0Bh are one)
 abbrev pub byte_of : Instruction → ℕ
-byte_of Ignored = noByte
+byte_of Ignored = no_byte
 byte_of WriteEnable = 0x06
 byte_of WriteDisable = 0x04
 byte_of GetFeature = 0x0F
@@ -25,8 +25,8 @@ byte_of BlockErase = 0xD8
 byte_of Reset = 0xFF
 
 -- the instruction of a byte; unknown ones are ignored
-unfoldable pub instructionOf : ℕ → Instruction
-instructionOf b =
+unfoldable pub instruction_of : ℕ → Instruction
+instruction_of b =
     if eqb b 0x06 then WriteEnable
     else if eqb b 0x04 then WriteDisable
     else if eqb b 0x0F then GetFeature
@@ -46,21 +46,21 @@ abbrev pub open? : ℕ → Bool
 open? b = eqb b 0x0F || eqb b 0x9F || eqb b 0xFF
 
 -- the instruction that a first byte begins: if OIP is 1, all but 0Fh, 9Fh and FFh are ignored
-abbrev pub heardAs : Bool → ℕ → Instruction
-heardAs busy b = if busy && not (open? b) then Ignored else instructionOf b
+abbrev pub heard_as : Bool → ℕ → Instruction
+heard_as busy b = if busy && not (open? b) then Ignored else instruction_of b
 
 -- the bytes of an instruction that acts as chip select rises; the others have nothing to do then
-abbrev pub formBytes : Instruction → ℕ
-formBytes WriteEnable = 1
-formBytes WriteDisable = 1
-formBytes SetFeature = 3
-formBytes PageRead = 4
-formBytes Execute = 4
-formBytes BlockErase = 4
-formBytes Reset = 1
-formBytes Ignored = 0
-formBytes GetFeature = 0
-formBytes ReadId = 0
-formBytes ReadCache = 0
-formBytes Load = 0
-formBytes LoadRandom = 0
+abbrev pub form_bytes : Instruction → ℕ
+form_bytes WriteEnable = 1
+form_bytes WriteDisable = 1
+form_bytes SetFeature = 3
+form_bytes PageRead = 4
+form_bytes Execute = 4
+form_bytes BlockErase = 4
+form_bytes Reset = 1
+form_bytes Ignored = 0
+form_bytes GetFeature = 0
+form_bytes ReadId = 0
+form_bytes ReadCache = 0
+form_bytes Load = 0
+form_bytes LoadRandom = 0

@@ -1,7 +1,7 @@
 // The instructions and their codes: which one a byte begins, what a busy array lets in, and the bytes of those that act as chip select
 // rises. Document 01, "Instructions".
 ghost use Rattle.std.specs.Prelude.{◌≡◌};
-ghost use Rattle.codes.specs.Codes.{byte_of, instructionOf, open?, heardAs, formBytes};
+ghost use Rattle.codes.specs.Codes.{byte_of, instruction_of, open?, heard_as, form_bytes};
 
 // The instruction of a transfer. `Ignored` stands where there is none to carry out: no byte has come yet, the byte is no
 // instruction, or the array was busy as it came.
@@ -24,7 +24,7 @@ pub enum Instruction {
 
 // The instruction of a byte.
 pub fn instruction_of(b: u8) -> Instruction
-    ensures { result ≡ instructionOf b }
+    ensures { result ≡ instruction_of b }
 {
     match b {
         0x06 => Instruction::WriteEnable,
@@ -69,7 +69,7 @@ pub fn byte_of(i: Instruction) -> u16
 
 // The bytes of an instruction that acts as chip select rises.
 pub fn form_bytes(i: Instruction) -> u8
-    ensures { result ≡ formBytes i }
+    ensures { result ≡ form_bytes i }
 {
     match i {
         Instruction::WriteEnable => 1,
@@ -100,7 +100,7 @@ pub fn let_in(b: u8) -> bool
 
 // The instruction that a first byte begins: a busy array lets in three of them.
 pub fn heard_as(busy: bool, b: u8) -> Instruction
-    ensures { result ≡ heardAs busy b }
+    ensures { result ≡ heard_as busy b }
 {
     if !busy {
         return instruction_of(b);

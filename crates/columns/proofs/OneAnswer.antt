@@ -16,20 +16,20 @@ use Rattle.columns.proofs.column_of.Kinds as column-of-kinds
 use Rattle.columns.proofs.wide_byte.Reads as wide-byte-reads
 use Rattle.columns.proofs.wide_byte.Kinds as wide-byte-kinds
 
-pub next-column-one : OneAnswer 0 next-column-kinds.ps next-column-kinds.r next-column-reads.Post
-next-column-one κs a x y s t p q = p ∙ sym q
+pub next_column_one : OneAnswer 0 next-column-kinds.ps next-column-kinds.r next-column-reads.Post
+next_column_one κs a x y s t p q = p ∙ sym q
 
-pub next-read-one : OneAnswer 0 next-read-kinds.ps next-read-kinds.r next-read-reads.Post
-next-read-one κs a x y s t p q = p ∙ sym q
+pub next_read_one : OneAnswer 0 next-read-kinds.ps next-read-kinds.r next-read-reads.Post
+next_read_one κs a x y s t p q = p ∙ sym q
 
-pub byte-at-one : OneAnswer 1 byte-at-kinds.ps byte-at-kinds.r byte-at-reads.Post
-byte-at-one κs a x y s t p q = p ∙ sym q
+pub byte_at_one : OneAnswer 1 byte-at-kinds.ps byte-at-kinds.r byte-at-reads.Post
+byte_at_one κs a x y s t p q = p ∙ sym q
 
-pub store-at-one : OneEnd 1 store-at-kinds.ps store-at-kinds.r (List ℕ) (λ κs s. s.0.now) store-at-reads.Post
-store-at-one κs a x y s t p q = (refl, p ∙ sym q)
+pub store_at_one : OneEnd 1 store-at-kinds.ps store-at-kinds.r (List ℕ) (λ κs s. s.0.now) store-at-reads.Post
+store_at_one κs a x y s t p q = (refl, p ∙ sym q)
 
-pub column-of-one : OneAnswer 0 column-of-kinds.ps column-of-kinds.r column-of-reads.Post
-column-of-one κs a x y s t p q = p ∙ sym q
+pub column_of_one : OneAnswer 0 column-of-kinds.ps column-of-kinds.r column-of-reads.Post
+column_of_one κs a x y s t p q = p ∙ sym q
 
-pub wide-byte-one : OneAnswer 0 wide-byte-kinds.ps wide-byte-kinds.r wide-byte-reads.Post
-wide-byte-one κs a x y s t p q = p ∙ sym q
+pub wide_byte_one : OneAnswer 0 wide-byte-kinds.ps wide-byte-kinds.r wide-byte-reads.Post
+wide_byte_one κs a x y s t p q = p ∙ sym q

@@ -1,6 +1,6 @@
 // Columns of a page: the next one, that of an address, and the byte of the cache register at one. Document 01, "Instructions".
 ghost use Rattle.std.specs.Prelude.{◌≡◌, set};
-ghost use Rattle.columns.specs.Columns.{next, nextRead, columnOf, cacheByte};
+ghost use Rattle.columns.specs.Columns.{next, next_read, column_of, cache_byte};
 
 use part::Column;
 
@@ -17,7 +17,7 @@ pub fn next_column(c: Column) -> Column
 
 // The next column of a read, on a page of so many bytes: the first follows the last, and one past the page stays past it.
 pub fn next_read(page: usize, c: Column) -> Column
-    ensures { result ≡ nextRead page c }
+    ensures { result ≡ next_read page c }
 {
     if part::wide_short(c.0) + 1 == page {
         return Column(0);
@@ -27,7 +27,7 @@ pub fn next_read(page: usize, c: Column) -> Column
 
 // The cache byte at a column, FFh past the page's end.
 pub fn byte_at(cache: &[u8], c: Column) -> u8
-    ensures { result ≡ cacheByte cache.now c }
+    ensures { result ≡ cache_byte cache.now c }
 {
     let at = part::wide_short(c.0);
     if at < cache.len() {
@@ -48,7 +48,7 @@ pub fn store_at(cache: &mut [u8], c: Column, b: u8)
 
 // A column address, the top four bits of its high byte ignored.
 pub fn column_of(high: u8, low: u8) -> Column
-    ensures { result ≡ columnOf high low }
+    ensures { result ≡ column_of high low }
 {
     Column(wide_byte(high % 16) * 256 + wide_byte(low))
 }

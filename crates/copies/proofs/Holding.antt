@@ -8,7 +8,7 @@ use lib.Dec.{T, eqb, ltb, eqb→eq}
 use lib.ListN.{length, take, get_or, get_or-eq_default}
 use lib.Seq.{get_or-take}
 use borrow.Author.Tests.{ltb-true, ltb-false, eq-eqb}
-use Rattle.part.proofs.Choice.{true-T, and_l, and_r, and_in}
+use Rattle.part.proofs.Choice.{true_T, and_l, and_r, and_in}
 use Rattle.sheet.specs.Numbers.{stretch}
 use Rattle.copies.specs.Copies.{signed, checked}
 use Rattle.copies.specs.Promises.{HoldsExactly}
@@ -21,17 +21,17 @@ within l i ne = go (ltb i (length l)) refl
     go true e = ltb-true i (length l) e
     go false e = absurd (ne (get_or-eq_default l 0 {n = i} (ltb-false i (length l) e)))
 
-first-four : (l : List ℕ) → 3 < length l → take 4 l ≡ get_or l 0 0 ∷ get_or l 1 0 ∷ get_or l 2 0 ∷ get_or l 3 0 ∷ []
-first-four [] h = absurd (omega arith)
-first-four (a ∷ []) h = absurd (omega arith)
-first-four (a ∷ b ∷ []) h = absurd (omega arith)
-first-four (a ∷ b ∷ c ∷ []) h = absurd (omega arith)
-first-four (a ∷ b ∷ c ∷ d ∷ l) h = refl
+first_four : (l : List ℕ) → 3 < length l → take 4 l ≡ get_or l 0 0 ∷ get_or l 1 0 ∷ get_or l 2 0 ∷ get_or l 3 0 ∷ []
+first_four [] h = absurd (omega arith)
+first_four (a ∷ []) h = absurd (omega arith)
+first_four (a ∷ b ∷ []) h = absurd (omega arith)
+first_four (a ∷ b ∷ c ∷ []) h = absurd (omega arith)
+first_four (a ∷ b ∷ c ∷ d ∷ l) h = refl
 
 module _ (p : List ℕ) where
-  to-signature : T (signed p) → stretch 0 4 p ≡ 0x4F ∷ 0x4E ∷ 0x46 ∷ 0x49 ∷ []
+  to_signature : T (signed p) → stretch 0 4 p ≡ 0x4F ∷ 0x4E ∷ 0x46 ∷ 0x49 ∷ []
   unfolding signed
-  to-signature t =
+  to_signature t =
       let a = eqb (get_or p 0 0) 0x4F in
       let b = eqb (get_or p 1 0) 0x4E in
       let c = eqb (get_or p 2 0) 0x46 in
@@ -40,17 +40,17 @@ module _ (p : List ℕ) where
       let e₁ : get_or p 1 0 ≡ 0x4E = eqb→eq _ _ (and_r a b (and_l (a && b) c (and_l (a && b && c) d t))) in
       let e₂ : get_or p 2 0 ≡ 0x46 = eqb→eq _ _ (and_r (a && b) c (and_l (a && b && c) d t)) in
       let e₃ : get_or p 3 0 ≡ 0x49 = eqb→eq _ _ (and_r (a && b && c) d t) in
-      first-four p (within p 3 (λ z. omega (arith, z, e₃))) ∙ rw (e₀, e₁, e₂, e₃) refl
+      first_four p (within p 3 (λ z. omega (arith, z, e₃))) ∙ rw (e₀, e₁, e₂, e₃) refl
 
-  from-signature : stretch 0 4 p ≡ 0x4F ∷ 0x4E ∷ 0x46 ∷ 0x49 ∷ [] → T (signed p)
+  from_signature : stretch 0 4 p ≡ 0x4F ∷ 0x4E ∷ 0x46 ∷ 0x49 ∷ [] → T (signed p)
   unfolding signed
-  from-signature e =
+  from_signature e =
       let at : (i : ℕ) → i < 4 → get_or p i 0 ≡ get_or (0x4F ∷ 0x4E ∷ 0x46 ∷ 0x49 ∷ []) i 0 = λ i h. sym (get_or-take 4 p i 0 h) ∙ ap (λ (l : List ℕ). get_or l i 0) e in
       rw (at 0 (omega arith), at 1 (omega arith), at 2 (omega arith), at 3 (omega arith)) tt
 
-pub holds-exactly : HoldsExactly
+pub holds_exactly : HoldsExactly
 unfolding checked
-holds-exactly p = (
-  λ t. record { signature = to-signature p (and_l (signed p) (checked p) t); check = eqb→eq _ _ (and_r (signed p) (checked p) t) },
-  λ h. and_in (signed p) (checked p) (from-signature p h.signature) (true-T _ (eq-eqb _ _ h.check)),
+holds_exactly p = (
+  λ t. record { signature = to_signature p (and_l (signed p) (checked p) t); check = eqb→eq _ _ (and_r (signed p) (checked p) t) },
+  λ h. and_in (signed p) (checked p) (from_signature p h.signature) (true_T _ (eq-eqb _ _ h.check)),
 )

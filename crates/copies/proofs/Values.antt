@@ -13,8 +13,8 @@ use Rattle.crc.specs.Promises.{Bytes}
 use Rattle.sheet.specs.Numbers.{number_in, stretch}
 
 -- no more is taken than is asked for
-length-take-short : (k : ℕ) (l : List ℕ) → length (take k l) ≤ k
-length-take-short k l = rw length-take (min-le_left k (length l))
+length_take_short : (k : ℕ) (l : List ℕ) → length (take k l) ≤ k
+length_take_short k l = rw length-take (min-le_left k (length l))
 
 -- k bytes are below 256^k
 pub number_lt : (k : ℕ) (l : List ℕ) → length l ≤ k → Bytes l → number_in l < 256 ^ k
@@ -25,12 +25,12 @@ number_lt (suc k) [] h bs = let p : 0 < 256 ^ k = number_lt k [] (omega arith) b
 number_lt (suc k) (b ∷ l) h bs = let p : number_in l < 256 ^ k = number_lt k l (omega arith) (λ i. bs (suc i)) in omega (arith, bs 0)
 
 -- 256^k for up to three bytes
-pub three-bytes : (k : ℕ) → k ≤ 3 → 256 ^ k ≤ 16777216
-three-bytes zero h = omega arith
-three-bytes (suc zero) h = omega arith
-three-bytes (suc (suc zero)) h = omega arith
-three-bytes (suc (suc (suc zero))) h = omega arith
-three-bytes (suc (suc (suc (suc k)))) h = absurd (omega arith)
+pub three_bytes : (k : ℕ) → k ≤ 3 → 256 ^ k ≤ 16777216
+three_bytes zero h = omega arith
+three_bytes (suc zero) h = omega arith
+three_bytes (suc (suc zero)) h = omega arith
+three_bytes (suc (suc (suc zero))) h = omega arith
+three_bytes (suc (suc (suc (suc k)))) h = absurd (omega arith)
 
 -- the bytes from place i on are read
 pub record Reading (s : List ℕ) (n i : ℕ) : Type 0 where
@@ -39,9 +39,9 @@ pub record Reading (s : List ℕ) (n i : ℕ) : Type 0 where
   pub small : n < 256 ^ (length s - i)
 
 -- and one more
-pub one-read : {s : List ℕ} {n i : ℕ} → Reading s n i → 0 < i → get_or s (i - 1) 0 < 256 → Reading s (256 * n + get_or s (i - 1) 0) (i - 1)
+pub one_read : {s : List ℕ} {n i : ℕ} → Reading s n i → 0 < i → get_or s (i - 1) 0 < 256 → Reading s (256 * n + get_or s (i - 1) 0) (i - 1)
 unfolding number_in
-one-read {s} {n} {i} r h b =
+one_read {s} {n} {i} r h b =
     let e : suc (i - 1) ≡ i = omega arith in
     let k : length s - (i - 1) ≡ suc (length s - i) = omega (arith, r.within) in
     let p : n < 256 ^ (length s - i) = r.small in
@@ -65,14 +65,14 @@ all_read {s} {n} {i} r h = let e : i ≡ 0 = omega arith in rw e at r.so_far
 
 -- ---- the two bytes of S
 
-pub stretch-bytes : (p : List ℕ) → Bytes p → (place size : ℕ) → Bytes (stretch place size p)
-stretch-bytes p bs place size i = go (ltb i size) refl
+pub stretch_bytes : (p : List ℕ) → Bytes p → (place size : ℕ) → Bytes (stretch place size p)
+stretch_bytes p bs place size i = go (ltb i size) refl
   where
     go : (t : Bool) → ltb i size ≡ t → get_or (take size (drop place p)) i 0 < 256
     go true e = rw (get_or-take size (drop place p) i 0 (ltb-true _ _ e), get_or-drop place p i 0) (bs (place + i))
     go false e =
-        let h : length (take size (drop place p)) ≤ i = omega (arith, length-take-short size (drop place p), ltb-false i size e) in
+        let h : length (take size (drop place p)) ≤ i = omega (arith, length_take_short size (drop place p), ltb-false i size e) in
         rw (get_or-eq_default (take size (drop place p)) 0 {n = i} h) (omega arith)
 
-pub short-whole : (p : List ℕ) → Bytes p → number_in (stretch 84 2 p) % 65536 ≡ number_in (stretch 84 2 p)
-short-whole p bs = mod-eq_of_lt (number_lt 2 (stretch 84 2 p) (length-take-short 2 (drop 84 p)) (stretch-bytes p bs 84 2))
+pub short_whole : (p : List ℕ) → Bytes p → number_in (stretch 84 2 p) % 65536 ≡ number_in (stretch 84 2 p)
+short_whole p bs = mod-eq_of_lt (number_lt 2 (stretch 84 2 p) (length_take_short 2 (drop 84 p)) (stretch_bytes p bs 84 2))

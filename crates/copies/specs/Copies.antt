@@ -2,7 +2,7 @@
 use Rattle.std.specs.Prelude.{Bool, ◌&&◌, List, [], ◌∷◌, ◌≡◌, ℕ, ◌*◌, eqb, ltb, length, get_or}
 use Rattle.part.specs.Choice.{if◌then◌else◌}
 use Rattle.part.specs.declared.Geometry.{Geometry}
-use Rattle.crc.specs.Crc.{crcOf}
+use Rattle.crc.specs.Crc.{crc_of}
 use Rattle.sheet.specs.Numbers.{number_in, stretch}
 use Rattle.copies.specs.declared.Found.{Found}
 use Rattle.copies.specs.declared.Found.TheVariants.{At, NoCopy, TooShort}
@@ -15,33 +15,33 @@ copy_at k l = stretch (256 * k) 256 l
 -- a copy holds if it has the signature, and the check of its bytes 0 to 253 at 254, low byte first
 pub record Holds (p : List ℕ) : Type 0 where
   pub signature : stretch 0 4 p ≡ 0x4F ∷ 0x4E ∷ 0x46 ∷ 0x49 ∷ []
-  pub check : number_in (stretch 254 2 p) ≡ crcOf (stretch 0 254 p)
+  pub check : number_in (stretch 254 2 p) ≡ crc_of (stretch 0 254 p)
 
 -- the two as tests
 unfoldable pub signed : List ℕ → Bool
 signed p = eqb (get_or p 0 0) 0x4F && eqb (get_or p 1 0) 0x4E && eqb (get_or p 2 0) 0x46 && eqb (get_or p 3 0) 0x49
 
 unfoldable pub checked : List ℕ → Bool
-checked p = eqb (number_in (stretch 254 2 p)) (crcOf (stretch 0 254 p))
+checked p = eqb (number_in (stretch 254 2 p)) (crc_of (stretch 0 254 p))
 
 abbrev pub holds : List ℕ → Bool
 holds p = signed p && checked p
 
 -- the four numbers of a copy, as they stand
-abbrev pub sizesIn : List ℕ → Sizes
-sizesIn p = record { main = number_in (stretch 80 4 p); spare = number_in (stretch 84 2 p); pages = number_in (stretch 92 4 p); blocks = number_in (stretch 96 4 p) }
+abbrev pub sizes_in : List ℕ → Sizes
+sizes_in p = record { main = number_in (stretch 80 4 p); spare = number_in (stretch 84 2 p); pages = number_in (stretch 92 4 p); blocks = number_in (stretch 96 4 p) }
 
 -- and of a part
-abbrev pub sizesOf : Geometry → Sizes
-sizesOf g = record { main = g.main; spare = g.spare; pages = g.pages; blocks = g.blocks }
+abbrev pub sizes_of : Geometry → Sizes
+sizes_of g = record { main = g.main; spare = g.spare; pages = g.pages; blocks = g.blocks }
 
 -- the reader: 11 for memory shorter than 768 bytes; else the first copy that holds, and 10 where none does
 unfoldable pub read_of : List ℕ → Found
 read_of l =
     if ltb (length l) 768 then TooShort
-    else if holds (copy_at 0 l) then At 0 (sizesIn (copy_at 0 l))
-    else if holds (copy_at 1 l) then At 1 (sizesIn (copy_at 1 l))
-    else if holds (copy_at 2 l) then At 2 (sizesIn (copy_at 2 l))
+    else if holds (copy_at 0 l) then At 0 (sizes_in (copy_at 0 l))
+    else if holds (copy_at 1 l) then At 1 (sizes_in (copy_at 1 l))
+    else if holds (copy_at 2 l) then At 2 (sizes_in (copy_at 2 l))
     else NoCopy
 
 -- an answer in figures: the refusal, and the copy and its four numbers, which are 0 where it is refused
@@ -51,11 +51,11 @@ pub record Figures : Type 0 where
   pub sizes : Sizes
 
 -- no numbers
-abbrev pub noSizes : Sizes
-noSizes = record { main = 0; spare = 0; pages = 0; blocks = 0 }
+abbrev pub no_sizes : Sizes
+no_sizes = record { main = 0; spare = 0; pages = 0; blocks = 0 }
 
 -- the numbers of refusal: 10 where no copy holds, 11 for memory shorter than 768 bytes
 abbrev pub figures : Found → Figures
 figures (At k s) = record { refusal = 0; copy = k; sizes = s }
-figures NoCopy = record { refusal = 10; copy = 0; sizes = noSizes }
-figures TooShort = record { refusal = 11; copy = 0; sizes = noSizes }
+figures NoCopy = record { refusal = 10; copy = 0; sizes = no_sizes }
+figures TooShort = record { refusal = 11; copy = 0; sizes = no_sizes }

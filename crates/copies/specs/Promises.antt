@@ -3,8 +3,8 @@ use Rattle.std.specs.Prelude.{List, ◌++◌, ◌↔◌, ◌≡◌, ℕ, ◌*◌
 use Rattle.part.specs.Part.{Sound}
 use Rattle.part.specs.declared.Geometry.{Geometry}
 use Rattle.crc.specs.Promises.{Bytes}
-use Rattle.sheet.specs.Page.{page_of, makeOf}
-use Rattle.copies.specs.Copies.{copy_at, Holds, holds, sizesIn, sizesOf, read_of, figures}
+use Rattle.sheet.specs.Page.{page_of, make_of}
+use Rattle.copies.specs.Copies.{copy_at, Holds, holds, sizes_in, sizes_of, read_of, figures}
 use Rattle.copies.specs.declared.Found.TheVariants.{At}
 use Rattle.copies.specs.declared.Sizes.{Sizes}
 
@@ -17,7 +17,7 @@ HoldsExactly = (p : List ℕ) → T (holds p) ↔ Holds p
 -- when the reader gives number n
 pub data ReadLine (l : List ℕ) : ℕ → Type 0 where
   too_short : length l < 768 → ReadLine l 11
-  none-holds : 768 ≤ length l → ((k : ℕ) → k < 3 → ¬ Holds (copy_at k l)) → ReadLine l 10
+  none_holds : 768 ≤ length l → ((k : ℕ) → k < 3 → ¬ Holds (copy_at k l)) → ReadLine l 10
   one_holds : 768 ≤ length l → (k : ℕ) → k < 3 → Holds (copy_at k l) → ReadLine l 0
 
 -- it gives n if and only if line n holds
@@ -29,9 +29,9 @@ ReaderExactly = (l : List ℕ) (n : ℕ) → (figures (read_of l)).refusal ≡ n
 -- copy k is the first that holds, and s its four numbers as they stand
 pub record First (l : List ℕ) (k : ℕ) (s : Sizes) : Type 0 where
   pub one_of_three : k < 3
-  pub holds-it : Holds (copy_at k l)
+  pub holds_it : Holds (copy_at k l)
   pub none_before : (j : ℕ) → j < k → ¬ Holds (copy_at j l)
-  pub numbers : s ≡ sizesIn (copy_at k l)
+  pub numbers : s ≡ sizes_in (copy_at k l)
 
 -- so it is with what the reader answers
 abbrev pub FirstHolds : Type 0
@@ -42,7 +42,7 @@ FirstHolds = (l : List ℕ) (k : ℕ) (s : Sizes) → read_of l ≡ At k s → F
 abbrev pub MadeReads : Type 0
 MadeReads =
     (g : Geometry) → Sound g → (l : List ℕ) → 768 ≤ length l → (k : ℕ) → k < 3 → ((j : ℕ) → j < k → ¬ Holds (copy_at j l)) →
-    read_of (take (256 * k) l ++ (makeOf g (drop (256 * k) l)).memory) ≡ At k (sizesOf g)
+    read_of (take (256 * k) l ++ (make_of g (drop (256 * k) l)).memory) ≡ At k (sizes_of g)
 
 -- ---- damage
 
@@ -55,4 +55,4 @@ DamageSeen =
 abbrev pub OneByteLost : Type 0
 OneByteLost =
     (g : Geometry) → Sound g → (l : List ℕ) → Bytes l → 768 ≤ length l → ((k : ℕ) → k < 3 → copy_at k l ≡ page_of g) →
-    (i b : ℕ) → b < 256 → ((figures (read_of (set l i b))).refusal ≡ 0) × ((figures (read_of (set l i b))).sizes ≡ sizesOf g)
+    (i b : ℕ) → b < 256 → ((figures (read_of (set l i b))).refusal ≡ 0) × ((figures (read_of (set l i b))).sizes ≡ sizes_of g)

@@ -1,7 +1,7 @@
 // The three copies of the parameter page, and their reader. Document 02, item 1; the datasheet's section 10.
 ghost use Rattle.std.specs.Prelude.{◌≡◌, ◌≤◌, length};
 ghost use Rattle.sheet.specs.Numbers.{number_in};
-ghost use Rattle.copies.specs.Copies.{signed, checked, holds, sizesIn, read_of};
+ghost use Rattle.copies.specs.Copies.{signed, checked, holds, sizes_in, read_of};
 
 // The four numbers of a page: D, S, K and N.
 #[derive(Drop)]
@@ -71,7 +71,7 @@ fn holds(page: &[u8]) -> bool
 // The four numbers of a copy, as they stand.
 fn sizes_in(page: &[u8]) -> Sizes
     requires { length page.now ≡ 256 }
-    ensures { result ≡ sizesIn page.now }
+    ensures { result ≡ sizes_in page.now }
 {
     Sizes {
         main: number(&page[80..84]),

@@ -7,7 +7,7 @@ use Prim.Native.Nat.{ℕ, zero, suc, ◌+◌, ◌<◌}
 use lib.Dec.{T, eqb, eqb→eq}
 use lib.ListN.{length, get_or}
 use Rattle.part.proofs.Choice.{and_l, and_r}
-use Rattle.crc.specs.Crc.{byteFed, RightTable}
+use Rattle.crc.specs.Crc.{byte_fed, RightTable}
 
 -- a test of a place and the entry there passes at each entry of a list, its places counted from i
 unfoldable pub every : (ℕ → ℕ → Bool) → ℕ → List ℕ → Bool
@@ -29,9 +29,9 @@ module _ (f : ℕ → ℕ → Bool) where
 
 -- the entry of n is what the bits of n make of 0
 unfoldable pub right : ℕ → ℕ → Bool
-right n x = eqb x (byteFed 0 n)
+right n x = eqb x (byte_fed 0 n)
 
 -- 256 entries that pass the test are a right table
-pub right-table : (t : List ℕ) → T (every right 0 t) → length t ≡ 256 → RightTable t
+pub right_table : (t : List ℕ) → T (every right 0 t) → length t ≡ 256 → RightTable t
 unfolding right
-right-table t p e = record { rule = λ n h. eqb→eq (get_or t n 0) (byteFed 0 n) (at right t p n (rw e h)) }
+right_table t p e = record { rule = λ n h. eqb→eq (get_or t n 0) (byte_fed 0 n) (at right t p n (rw e h)) }

@@ -1,6 +1,6 @@
 // The ONFI 1.0 check of a stretch of bytes, eight bits at a time by a table of 256 entries. Document 02, item 1.
 ghost use Rattle.std.specs.Prelude.{◌≡◌};
-ghost use Rattle.crc.specs.Crc.{RightTable, byteFed, crcOf};
+ghost use Rattle.crc.specs.Crc.{RightTable, byte_fed, crc_of};
 
 mod table;
 
@@ -9,7 +9,7 @@ use table::TABLE;
 // Eight bits of the check go out at the top, and eight 0 bits come in.
 fn moved(table: &[u16; 256], c: u16) -> u16
     requires { RightTable table.now }
-    ensures { result ≡ byteFed c 0 }
+    ensures { result ≡ byte_fed c 0 }
 {
     let n = (c / 256) as usize;
     (c % 256 * 256) ^ table[n]
@@ -18,7 +18,7 @@ fn moved(table: &[u16; 256], c: u16) -> u16
 // One byte more. It is added to the upper eight bits, and they go out.
 fn one_more(table: &[u16; 256], c: u16, b: u8) -> u16
     requires { RightTable table.now }
-    ensures { result ≡ byteFed c b }
+    ensures { result ≡ byte_fed c b }
 {
     moved(table, c ^ (256 * (b as u16)))
 }
@@ -26,7 +26,7 @@ fn one_more(table: &[u16; 256], c: u16, b: u8) -> u16
 // Two bytes more. They are added to all 16 bits at once, which then go out.
 fn two_more(table: &[u16; 256], c: u16, b: u8, d: u8) -> u16
     requires { RightTable table.now }
-    ensures { result ≡ byteFed (byteFed c b) d }
+    ensures { result ≡ byte_fed (byte_fed c b) d }
 {
     let both = 256 * (b as u16) + (d as u16);
     moved(table, moved(table, c ^ both))
@@ -35,7 +35,7 @@ fn two_more(table: &[u16; 256], c: u16, b: u8, d: u8) -> u16
 // The check of a stretch of bytes, two by two.
 fn along(table: &[u16; 256], bytes: &[u8]) -> u16
     requires { RightTable table.now }
-    ensures { result ≡ crcOf bytes.now }
+    ensures { result ≡ crc_of bytes.now }
 {
     let mut c: u16 = 0x4F4E;
     let mut i = 0;
@@ -51,7 +51,7 @@ fn along(table: &[u16; 256], bytes: &[u8]) -> u16
 
 // The check of a stretch of bytes. (The table is put on the stack once, and not again for each byte.)
 pub fn check_of(bytes: &[u8]) -> u16
-    ensures { result ≡ crcOf bytes.now }
+    ensures { result ≡ crc_of bytes.now }
 {
     let table = TABLE;
     along(&table, bytes)

@@ -32,26 +32,26 @@ shifted s b = record { state = s; out = b }
 abbrev some : State → Machine
 some s = machine s [] [] []
 
-pub power-up-one : OneAnswer 0 power-up-kinds.ps power-up-kinds.r power-up-reads.Post
-power-up-one κs a x y s t p q = p ∙ sym q
+pub power_up_one : OneAnswer 0 power-up-kinds.ps power-up-kinds.r power-up-reads.Post
+power_up_one κs a x y s t p q = p ∙ sym q
 
-pub select-one : OneAnswer 0 select-kinds.ps select-kinds.r select-reads.Post
-select-one κs a x y s t p q = p ∙ sym q
+pub select_one : OneAnswer 0 select-kinds.ps select-kinds.r select-reads.Post
+select_one κs a x y s t p q = p ∙ sym q
 
-pub level-one : OneAnswer 0 level-kinds.ps level-kinds.r level-reads.Post
-level-one κs a x y s t p q = p ∙ sym q
+pub level_one : OneAnswer 0 level-kinds.ps level-kinds.r level-reads.Post
+level_one κs a x y s t p q = p ∙ sym q
 
-pub sound-one : OneAnswer 0 sound-kinds.ps sound-kinds.r sound-reads.Post
-sound-one κs a x y s t p q = p ∙ sym q
+pub sound_one : OneAnswer 0 sound-kinds.ps sound-kinds.r sound-reads.Post
+sound_one κs a x y s t p q = p ∙ sym q
 
 pub shift_one : OneEnd 1 shift_kinds.ps shift_kinds.r (List ℕ) (λ κs s. s.1.1.1.0.now) shift-reads.Post
 shift_one κs a x y s t p q = (ap₂ shifted (ap (λ (m : Machine). m.state) (p.0 (some a.0) ∙ sym (q.0 (some a.0)))) (p.1 ∙ sym q.1), ap (λ (m : Machine). m.store.cache) (p.0 (some a.0) ∙ sym (q.0 (some a.0))))
 
-pub deselect-one : OneEnd 1 deselect-kinds.ps deselect-kinds.r (List ℕ) (λ κs s. s.1.1.0.now) deselect-reads.Post
-deselect-one κs a x y s t p q = (ap (λ (m : Machine). m.state) (p (some a.0) ∙ sym (q (some a.0))), ap (λ (m : Machine). m.counts) (p (some a.0) ∙ sym (q (some a.0))))
+pub deselect_one : OneEnd 1 deselect-kinds.ps deselect-kinds.r (List ℕ) (λ κs s. s.1.1.0.now) deselect-reads.Post
+deselect_one κs a x y s t p q = (ap (λ (m : Machine). m.state) (p (some a.0) ∙ sym (q (some a.0))), ap (λ (m : Machine). m.counts) (p (some a.0) ∙ sym (q (some a.0))))
 
-pub power-one : OneEnd 1 power-kinds.ps power-kinds.r (List ℕ) (λ κs s. s.1.1.0.now) power-reads.Post
-power-one κs a x y s t p q = (ap (λ (m : Machine). m.state) (p (some a.0) ∙ sym (q (some a.0))), ap (λ (m : Machine). m.store.cache) (p (some a.0) ∙ sym (q (some a.0))))
+pub power_one : OneEnd 1 power-kinds.ps power-kinds.r (List ℕ) (λ κs s. s.1.1.0.now) power-reads.Post
+power_one κs a x y s t p q = (ap (λ (m : Machine). m.state) (p (some a.0) ∙ sym (q (some a.0))), ap (λ (m : Machine). m.store.cache) (p (some a.0) ∙ sym (q (some a.0))))
 
-pub work-one : OneEnd 2 work-kinds.ps work-kinds.r Store (λ κs s. store s.1.1.1.0.now s.1.1.1.1.0.now) work-reads.Post
-work-one κs a x y s t p q = (ap (λ (m : Machine). m.state) (p (some a.0) ∙ sym (q (some a.0))), ap (λ (m : Machine). m.store) (p (some a.0) ∙ sym (q (some a.0))))
+pub work_one : OneEnd 2 work-kinds.ps work-kinds.r Store (λ κs s. store s.1.1.1.0.now s.1.1.1.1.0.now) work-reads.Post
+work_one κs a x y s t p q = (ap (λ (m : Machine). m.state) (p (some a.0) ∙ sym (q (some a.0))), ap (λ (m : Machine). m.store) (p (some a.0) ∙ sym (q (some a.0))))

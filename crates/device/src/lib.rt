@@ -2,12 +2,12 @@
 // Document 01, "Instructions" and "Work of the array". Each method takes the state whole and hands the next one back.
 ghost use Rattle.std.specs.Prelude.{◌≡◌};
 ghost use Rattle.array.specs.Jobs.{store};
-ghost use Rattle.transfer.specs.Transfer.{selects, withPins};
-ghost use Rattle.device.specs.Machine.{Machine, onCache, onCounts, onStore, busIn, statusIn};
-ghost use Rattle.device.specs.Work.{begun, endedState, units, unitwise, workedState, WorkReady};
-ghost use Rattle.device.specs.Instructions.{answer, shifts, programs, erases, resetState, writtenState, effect, acted, deselects};
-ghost use Rattle.device.specs.Step.{powerUp, powered};
-ghost use Rattle.device.specs.Sound.{soundState};
+ghost use Rattle.transfer.specs.Transfer.{selects, with_pins};
+ghost use Rattle.device.specs.Machine.{Machine, on_cache, on_counts, on_store, bus_in, status_in};
+ghost use Rattle.device.specs.Work.{begun, ended_state, units, unitwise, worked_state, WorkReady};
+ghost use Rattle.device.specs.Instructions.{answer, shifts, programs, erases, reset_state, written_state, effect, acted, deselects};
+ghost use Rattle.device.specs.Step.{power_up, powered};
+ghost use Rattle.device.specs.Sound.{sound_state};
 
 use array::{Job, Work};
 use codes::Instruction;
@@ -33,7 +33,7 @@ pub struct Shifted {
 impl State {
     // The power-up state, WP# high.
     pub fn power_up() -> State
-        ensures { result ≡ powerUp }
+        ensures { result ≡ power_up }
     {
         State {
             regs: Registers {
@@ -52,7 +52,7 @@ impl State {
 
     // Chip select falls.
     pub fn select(self) -> State
-        ensures { result ≡ busIn (selects self.bus) self }
+        ensures { result ≡ bus_in (selects self.bus) self }
     {
         let x = self.bus;
         State {
@@ -63,7 +63,7 @@ impl State {
 
     // The levels of the pins are set.
     pub fn level(self, pins: Pins) -> State
-        ensures { result ≡ busIn (withPins pins self.bus) self }
+        ensures { result ≡ bus_in (with_pins pins self.bus) self }
     {
         let x = self.bus;
         State {
@@ -74,7 +74,7 @@ impl State {
 
     // One byte shifted in on DI, one out on DO.
     pub fn shift(self, g: Geometry, b: u8, cache: &mut [u8]) -> Shifted
-        ensures { ((m : Machine) → onCache result.state cache.new m ≡ shifts g b (onCache self cache.old m)) × (result.out ≡ answer g self cache.old) }
+        ensures { ((m : Machine) → on_cache result.state cache.new m ≡ shifts g b (on_cache self cache.old m)) × (result.out ≡ answer g self cache.old) }
     {
         let x = self.bus;
         let r = self.regs;
@@ -89,7 +89,7 @@ impl State {
 
     // Another status register.
     fn with_status(self, c: u8) -> State
-        ensures { result ≡ statusIn c self }
+        ensures { result ≡ status_in c self }
     {
         let r = self.regs;
         State {
@@ -115,7 +115,7 @@ impl State {
 
     // 10h with its row.
     fn programs(self, g: Geometry, row: Row, counts: &mut [u8]) -> State
-        ensures { (m : Machine) → onCounts result counts.new m ≡ programs g (unitwise g) row (onCounts self counts.old m) }
+        ensures { (m : Machine) → on_counts result counts.new m ≡ programs g (unitwise g) row (on_counts self counts.old m) }
     {
         let r = self.regs;
         if !registers::wel(r.c0) {
@@ -131,7 +131,7 @@ impl State {
 
     // D8h with its row.
     fn erases(self, g: Geometry, row: Row, counts: &mut [u8]) -> State
-        ensures { (m : Machine) → onCounts result counts.new m ≡ erases g (unitwise g) row (onCounts self counts.old m) }
+        ensures { (m : Machine) → on_counts result counts.new m ≡ erases g (unitwise g) row (on_counts self counts.old m) }
     {
         let r = self.regs;
         if !registers::wel(r.c0) {
@@ -147,7 +147,7 @@ impl State {
 
     // FFh: an operation in progress is stopped after the units done, and the reset's own begins.
     fn resets(self) -> State
-        ensures { result ≡ begun Job.Restart (resetState self) }
+        ensures { result ≡ begun Job.Restart (reset_state self) }
     {
         let r = self.regs;
         let s = State {
@@ -163,7 +163,7 @@ impl State {
 
     // What the instruction does, its bytes all there.
     fn effect(self, g: Geometry, counts: &mut [u8]) -> State
-        ensures { (m : Machine) → onCounts result counts.new m ≡ effect g (unitwise g) self.bus.transfer.instruction (onCounts self counts.old m) }
+        ensures { (m : Machine) → on_counts result counts.new m ≡ effect g (unitwise g) self.bus.transfer.instruction (on_counts self counts.old m) }
     {
         let r = self.regs;
         let x = self.bus;
@@ -188,7 +188,7 @@ impl State {
 
     // 1Fh with its address and value.
     fn writes(self, g: Geometry) -> State
-        ensures { result ≡ writtenState g self }
+        ensures { result ≡ written_state g self }
     {
         let r = self.regs;
         let x = self.bus;
@@ -202,7 +202,7 @@ impl State {
 
     // The instruction acts if exactly its bytes were shifted.
     fn acts(self, g: Geometry, counts: &mut [u8]) -> State
-        ensures { (m : Machine) → onCounts result counts.new m ≡ acted g (unitwise g) (onCounts self counts.old m) }
+        ensures { (m : Machine) → on_counts result counts.new m ≡ acted g (unitwise g) (on_counts self counts.old m) }
     {
         let x = self.bus;
         let t = x.transfer;
@@ -214,7 +214,7 @@ impl State {
 
     // Chip select rises.
     pub fn deselect(self, g: Geometry, counts: &mut [u8]) -> State
-        ensures { (m : Machine) → onCounts result counts.new m ≡ deselects g (unitwise g) (onCounts self counts.old m) }
+        ensures { (m : Machine) → on_counts result counts.new m ≡ deselects g (unitwise g) (on_counts self counts.old m) }
     {
         let x = self.bus;
         let t = x.transfer;
@@ -228,7 +228,7 @@ impl State {
 
     // Power lost and back.
     pub fn power(self, g: Geometry, cache: &mut [u8]) -> State
-        ensures { (m : Machine) → onCache result cache.new m ≡ powered g (unitwise g) (onCache self cache.old m) }
+        ensures { (m : Machine) → on_cache result cache.new m ≡ powered g (unitwise g) (on_cache self cache.old m) }
     {
         part::fill(cache, 0xFF);
         let x = self.bus;
@@ -242,7 +242,7 @@ impl State {
 
     // The state at an operation's end. (Every operation ends alike today.)
     fn ended(self, job: Job) -> State
-        ensures { result ≡ endedState job self }
+        ensures { result ≡ ended_state job self }
     {
         let r = self.regs;
         State {
@@ -257,7 +257,7 @@ impl State {
 
     // The state when the work of an operation has come so far.
     fn worked(self, job: Job, next: Work) -> State
-        ensures { result ≡ workedState job next self }
+        ensures { result ≡ worked_state job next self }
     {
         match next {
             Work::Idle => self.ended(job),
@@ -271,7 +271,7 @@ impl State {
     // Array work of n units.
     pub fn work(self, g: Geometry, n: usize, cells: &mut [u8], cache: &mut [u8]) -> State
         requires { WorkReady g self.work (store cells.old cache.old) }
-        ensures { (m : Machine) → onStore result cells.new cache.new m ≡ units g n (onStore self cells.old cache.old m) }
+        ensures { (m : Machine) → on_store result cells.new cache.new m ≡ units g n (on_store self cells.old cache.old m) }
     {
         let w = self.work;
         match w {
@@ -285,7 +285,7 @@ impl State {
 
     // Whether the state is sound for a part.
     pub fn sound(self, g: Geometry) -> bool
-        ensures { result ≡ soundState g self }
+        ensures { result ≡ sound_state g self }
     {
         let r = self.regs;
         let x = self.bus;

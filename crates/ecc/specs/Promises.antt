@@ -3,7 +3,7 @@ use Rattle.std.specs.Prelude.{List, ◌↔◌, ◌≡◌, ℕ, ◌≤◌, ◌<�
 use Rattle.std.specs.Int.Bits.{bit_xor}
 use Rattle.part.specs.Part.{page, Sound}
 use Rattle.part.specs.declared.Geometry.{Geometry}
-use Rattle.ecc.specs.Ecc.{sectors, inSector, marked, worst, eccs, mended}
+use Rattle.ecc.specs.Ecc.{sectors, in_sector, marked, worst, eccs, mended}
 
 -- every sector of a page has at most n marked bits; and some sector has n or more
 abbrev pub AllWithin : Geometry → (ℕ → ℕ) → ℕ → Type 0
@@ -16,11 +16,11 @@ pub record SomeFrom (g : Geometry) (marks : ℕ → ℕ) (n : ℕ) : Type 0 wher
 
 -- ECCS is each of its values exactly when its condition on the sectors holds
 pub record EccsExactly (g : Geometry) (marks : ℕ → ℕ) (v : ℕ) : Type 0 where
-  pub is-000 : (v ≡ 0) ↔ AllWithin g marks 0
-  pub is-001 : (v ≡ 1) ↔ (AllWithin g marks 3 × SomeFrom g marks 1)
-  pub is-011 : (v ≡ 3) ↔ (AllWithin g marks 6 × SomeFrom g marks 4)
-  pub is-101 : (v ≡ 5) ↔ (AllWithin g marks 8 × SomeFrom g marks 7)
-  pub is-010 : (v ≡ 2) ↔ SomeFrom g marks 9
+  pub is_000 : (v ≡ 0) ↔ AllWithin g marks 0
+  pub is_001 : (v ≡ 1) ↔ (AllWithin g marks 3 × SomeFrom g marks 1)
+  pub is_011 : (v ≡ 3) ↔ (AllWithin g marks 6 × SomeFrom g marks 4)
+  pub is_101 : (v ≡ 5) ↔ (AllWithin g marks 8 × SomeFrom g marks 7)
+  pub is_010 : (v ≡ 2) ↔ SomeFrom g marks 9
 
 abbrev pub EccsTold : Type 0
 EccsTold = (g : Geometry) (marks : ℕ → ℕ) → EccsExactly g marks (eccs (worst g marks))
@@ -29,11 +29,11 @@ EccsTold = (g : Geometry) (marks : ℕ → ℕ) → EccsExactly g marks (eccs (w
 pub record InMended (g : Geometry) (marks : ℕ → ℕ) (c : ℕ) : Type 0 where
   pub sector : ℕ
   pub there : sector < sectors g
-  pub has : T (inSector g sector c)
+  pub has : T (in_sector g sector c)
   pub few : marked g marks sector ≤ 8
 
 abbrev pub NotMended : Geometry → (ℕ → ℕ) → ℕ → Type 0
-NotMended g marks c = (j : ℕ) → j < sectors g → T (inSector g j c) → 8 < marked g marks j
+NotMended g marks c = (j : ℕ) → j < sectors g → T (in_sector g j c) → 8 < marked g marks j
 
 -- each byte of a mended sector has its marked bits turned back, once; each other byte is as it was
 abbrev pub BytesMended : Type 0

@@ -1,7 +1,7 @@
 // The ECC of a page: its sectors, their marked bits, what is mended and what ECCS says. Document 02, item 3.
 ghost use Rattle.std.specs.Prelude.{◌≡◌, ◌≤◌, ◌<◌, max, length, get_or};
 ghost use Rattle.part.specs.Part.{page, Sound};
-ghost use Rattle.ecc.specs.Ecc.{sectored, sectors, sectorAt, marked, worst, eccs, sectorTurned, mendedSector, mended};
+ghost use Rattle.ecc.specs.Ecc.{sectored, sectors, sector_at, marked, worst, eccs, sector_turned, mended_sector, mended};
 
 use part::Geometry;
 
@@ -37,7 +37,7 @@ struct Sector {
 // Sector j of a page.
 fn sector_at(g: Geometry, j: usize) -> Sector
     requires { (Sound g) × (j < sectors g) }
-    ensures { result ≡ sectorAt g j }
+    ensures { result ≡ sector_at g j }
 {
     if sectored(g) {
         let main = 512 * j;
@@ -72,7 +72,7 @@ fn marked(g: Geometry, j: usize, marks: &[u8]) -> u32
 // The marked bits of sector j turned back.
 fn turn_sector(g: Geometry, j: usize, marks: &[u8], cache: &mut [u8])
     requires { (Sound g) × (j < sectors g) × (length marks.now ≡ page g) × (length cache.old ≡ page g) }
-    ensures { cache.new ≡ sectorTurned g (λ c. get_or marks.now c 0) j cache.old }
+    ensures { cache.new ≡ sector_turned g (λ c. get_or marks.now c 0) j cache.old }
 {
     let s = sector_at(g, j);
     stretches::turn_back(marks, cache, s.main, s.past);
@@ -82,7 +82,7 @@ fn turn_sector(g: Geometry, j: usize, marks: &[u8], cache: &mut [u8])
 // Sector j mended if it has at most 8 marked bits; how many it has.
 fn mend_sector(g: Geometry, j: usize, marks: &[u8], cache: &mut [u8]) -> u32
     requires { (Sound g) × (j < sectors g) × (length marks.now ≡ page g) × (length cache.old ≡ page g) }
-    ensures { (result ≡ marked g (λ c. get_or marks.now c 0) j) × (cache.new ≡ mendedSector g (λ c. get_or marks.now c 0) j cache.old) }
+    ensures { (result ≡ marked g (λ c. get_or marks.now c 0) j) × (cache.new ≡ mended_sector g (λ c. get_or marks.now c 0) j cache.old) }
 {
     let n = marked(g, j, marks);
     if 8 < n {

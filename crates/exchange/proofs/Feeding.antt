@@ -10,13 +10,13 @@ use lib.Seq.{take_all, drop-cons, drop-length, drop-drop, drop-set-lt, take-suc-
 use Rattle.part.specs.declared.Column.{Column}
 use Rattle.part.specs.declared.Geometry.{Geometry}
 use Rattle.registers.specs.Registers.{oip}
-use Rattle.transfer.specs.Transfer.{shiftedIn, cached}
+use Rattle.transfer.specs.Transfer.{shifted_in, cached}
 use Rattle.transfer.specs.declared.Bus.{Bus}
-use Rattle.reply.specs.Reply.{byteOut}
-use Rattle.device.specs.Machine.{Machine, onCache, busIn}
+use Rattle.reply.specs.Reply.{byte_out}
+use Rattle.device.specs.Machine.{Machine, on_cache, bus_in}
 use Rattle.device.specs.Instructions.{answer, shifts, fed, replies}
 use Rattle.device.specs.declared.State.{State}
-use Rattle.stream.specs.Streams.{atColumn}
+use Rattle.stream.specs.Streams.{at_column}
 use Rattle.stream.proofs.Shifting.{Moves}
 use Rattle.exchange.specs.Exchange.{Exchanged}
 
@@ -26,24 +26,24 @@ use Rattle.exchange.specs.Exchange.{Exchanged}
 pub record Upto (di out₀ out : List ℕ) (i : ℕ) : Type 0 where
   pub below : i ≤ length di
   pub room : length di ≤ length out₀
-  pub out-long : length out ≡ length out₀
+  pub out_long : length out ≡ length out₀
   pub rest : drop i out ≡ drop i out₀
 
-pub upto-none : (di out : List ℕ) → length di ≤ length out → Upto di out out 0
-upto-none di out h = record { below = omega arith; room = h; out-long = refl; rest = refl }
+pub upto_none : (di out : List ℕ) → length di ≤ length out → Upto di out out 0
+upto_none di out h = record { below = omega arith; room = h; out_long = refl; rest = refl }
 
 -- one more
-pub upto-one : {di out₀ out : List ℕ} {i : ℕ} → Upto di out₀ out i → (x : ℕ) → i < length di → Upto di out₀ (set out i x) (i + 1)
-upto-one {di} {out₀} {out} {i} h x l =
+pub upto_one : {di out₀ out : List ℕ} {i : ℕ} → Upto di out₀ out i → (x : ℕ) → i < length di → Upto di out₀ (set out i x) (i + 1)
+upto_one {di} {out₀} {out} {i} h x l =
     record {
       below = omega arith;
       room = h.room;
-      out-long = simp length-set h.out-long;
-      rest = rw (add-one i, drop-set-lt (suc i) out i x (omega arith)) (sym (drop-one out) ∙ ap (drop 1) h.rest ∙ drop-one out₀);
+      out_long = simp length-set h.out_long;
+      rest = rw (add-one i, drop-set-lt (suc i) out i x (omega arith)) (sym (drop_one out) ∙ ap (drop 1) h.rest ∙ drop_one out₀);
     }
   where
-    drop-one : (l : List ℕ) → drop 1 (drop i l) ≡ drop (suc i) l
-    drop-one l = drop-drop 1 i l ∙ rw (add-one i)
+    drop_one : (l : List ℕ) → drop 1 (drop i l) ≡ drop (suc i) l
+    drop_one l = drop-drop 1 i l ∙ rw (add-one i)
 
 -- ---- a machine fed
 
@@ -52,25 +52,25 @@ pub record Fed (g : Geometry) (di : List ℕ) (m₀ m : Machine) (out : List ℕ
   pub same : fed g (drop i di) m ≡ fed g di m₀
   pub lies : take i out ++ replies g (drop i di) m ≡ replies g di m₀
 
-pub fed-none : (g : Geometry) (di : List ℕ) (m : Machine) (out : List ℕ) → Fed g di m m out 0
-fed-none g di m out = record { same = refl; lies = refl }
+pub fed_none : (g : Geometry) (di : List ℕ) (m : Machine) (out : List ℕ) → Fed g di m m out 0
+fed_none g di m out = record { same = refl; lies = refl }
 
 -- what is left of a list, as the code lends it: the part up to its end; nothing stands behind it
-part-rest : (i : ℕ) (l : List ℕ) → take (length l - i) (drop i l) ≡ drop i l
-part-rest i l = take_all (length l - i) (drop i l) (rw (length-drop i l) (omega arith))
+part_rest : (i : ℕ) (l : List ℕ) → take (length l - i) (drop i l) ≡ drop i l
+part_rest i l = take_all (length l - i) (drop i l) (rw (length-drop i l) (omega arith))
 
-behind-part : (i : ℕ) (l : List ℕ) → drop (length l - i) (drop i l) ≡ []
-behind-part i l = ap (λ (k : ℕ). drop k (drop i l)) (sym (length-drop i l)) ∙ drop-length (drop i l)
+behind_part : (i : ℕ) (l : List ℕ) → drop (length l - i) (drop i l) ≡ []
+behind_part i l = ap (λ (k : ℕ). drop k (drop i l)) (sym (length-drop i l)) ∙ drop-length (drop i l)
 
-pub part-fits : {di out₀ out : List ℕ} {i : ℕ} → Upto di out₀ out i → length (take (length di - i) (drop i di)) ≤ length (take (length out - i) (drop i out))
-part-fits {di} {out₀} {out} {i} u = rw (part-rest i di, part-rest i out, length-drop i di, length-drop i out) (omega (arith, u.room, u.out-long))
+pub part_fits : {di out₀ out : List ℕ} {i : ℕ} → Upto di out₀ out i → length (take (length di - i) (drop i di)) ≤ length (take (length out - i) (drop i out))
+part_fits {di} {out₀} {out} {i} u = rw (part_rest i di, part_rest i out, length-drop i di, length-drop i out) (omega (arith, u.room, u.out_long))
 
 module _ {g : Geometry} {di : List ℕ} {m₀ m : Machine} {out₀ out : List ℕ} {i : ℕ} (u : Upto di out₀ out i) (h : Fed g di m₀ m out i) where
   -- one byte more
-  pub fed-one : (x : ℕ) → i < length di → answer g m.state m.store.cache ≡ x → Fed g di m₀ (shifts g (get_or di i 0) m) (set out i x) (i + 1)
+  pub fed_one : (x : ℕ) → i < length di → answer g m.state m.store.cache ≡ x → Fed g di m₀ (shifts g (get_or di i 0) m) (set out i x) (i + 1)
   unfolding fed replies
-  fed-one x l e =
-      let inside : i < length out = omega (arith, u.room, u.out-long) in
+  fed_one x l e =
+      let inside : i < length out = omega (arith, u.room, u.out_long) in
       record {
         same = rw (add-one i) (sym (ap (λ (l : List ℕ). fed g l m) (drop-cons di i 0 l)) ∙ h.same);
         lies =
@@ -84,9 +84,9 @@ module _ {g : Geometry} {di : List ℕ} {m₀ m : Machine} {out₀ out : List �
   Ended m₁ out₁ = (m₁ ≡ fed g di m₀) × (out₁ ≡ replies g di m₀ ++ drop (length di) out₀)
 
   -- all of them
-  pub fed-all : length di ≤ i → Ended m out
+  pub fed_all : length di ≤ i → Ended m out
   unfolding fed replies
-  fed-all l = (
+  fed_all l = (
     sym (ap (λ (l : List ℕ). fed g l m) none) ∙ h.same,
     sym (take-append-drop i out)
         ∙ ap (λ (l : List ℕ). take i out ++ l) u.rest
@@ -101,8 +101,8 @@ module _ {g : Geometry} {di : List ℕ} {m₀ m : Machine} {out₀ out : List �
       none = ap (λ (k : ℕ). drop k di) end ∙ drop-length di
 
   -- the rest in one piece
-  fed-rest : (m₁ : Machine) (out₁ : List ℕ) → m₁ ≡ fed g (drop i di) m → out₁ ≡ replies g (drop i di) m ++ drop (length (drop i di)) (drop i out) → Ended m₁ (take i out ++ out₁)
-  fed-rest m₁ out₁ x y = (
+  fed_rest : (m₁ : Machine) (out₁ : List ℕ) → m₁ ≡ fed g (drop i di) m → out₁ ≡ replies g (drop i di) m ++ drop (length (drop i di)) (drop i out) → Ended m₁ (take i out ++ out₁)
+  fed_rest m₁ out₁ x y = (
     x ∙ h.same,
     rw y
         (sym (append_assoc (take i out) (replies g (drop i di) m) (drop (length (drop i di)) (drop i out)))
@@ -116,50 +116,50 @@ module _ {g : Geometry} {di : List ℕ} {m₀ m : Machine} {out₀ out : List �
       behind = rw u.rest (drop-drop (length (drop i di)) i out₀ ∙ ap (λ (k : ℕ). drop k out₀) end)
 
   -- the same of what the code lends
-  pub fed-part : (m₁ : Machine) (out₁ : List ℕ) → m₁ ≡ fed g (take (length di - i) (drop i di)) m
+  pub fed_part : (m₁ : Machine) (out₁ : List ℕ) → m₁ ≡ fed g (take (length di - i) (drop i di)) m
       → out₁ ≡ replies g (take (length di - i) (drop i di)) m ++ drop (length (take (length di - i) (drop i di))) (take (length out - i) (drop i out))
       → Ended m₁ (take i out ++ (out₁ ++ drop (length out - i) (drop i out)))
-  fed-part m₁ out₁ x y = rw (behind-part i out, append-nil out₁) (fed-rest m₁ out₁ (rw (part-rest i di) at x) (rw (part-rest i di, part-rest i out) at y))
+  fed_part m₁ out₁ x y = rw (behind_part i out, append-nil out₁) (fed_rest m₁ out₁ (rw (part_rest i di) at x) (rw (part_rest i di, part_rest i out) at y))
 
 -- ---- a state fed: only its bus and the cache register change, whatever else the machine holds
 
 -- i bytes fed
 pub record Along (g : Geometry) (s : State) (cache₀ di out₀ cache out : List ℕ) (x : Bus) (i : ℕ) : Type 0 where
   pub upto : Upto di out₀ out i
-  pub cache-long : length cache ≡ length cache₀
-  pub done : (m : Machine) → Fed g di (onCache s cache₀ m) (onCache (busIn x s) cache m) out i
+  pub cache_long : length cache ≡ length cache₀
+  pub done : (m : Machine) → Fed g di (on_cache s cache₀ m) (on_cache (bus_in x s) cache m) out i
 
-pub along-none : (g : Geometry) (s : State) (cache di out : List ℕ) → length di ≤ length out → Along g s cache di out cache out s.bus 0
-along-none g s cache di out h = record { upto = upto-none di out h; cache-long = refl; done = λ m. fed-none g di (onCache s cache m) out }
+pub along_none : (g : Geometry) (s : State) (cache di out : List ℕ) → length di ≤ length out → Along g s cache di out cache out s.bus 0
+along_none g s cache di out h = record { upto = upto_none di out h; cache_long = refl; done = λ m. fed_none g di (on_cache s cache m) out }
 
 module _ {g : Geometry} {s : State} {cache₀ di out₀ cache out : List ℕ} {x : Bus} {i : ℕ} (h : Along g s cache₀ di out₀ cache out x i) where
   -- one byte more
   pub along_one : (x' : Bus) (cache' : List ℕ) (v : ℕ) → i < length di → length cache' ≡ length cache
-      → ((m : Machine) → shifts g (get_or di i 0) (onCache (busIn x s) cache m) ≡ onCache (busIn x' s) cache' m) → answer g (busIn x s) cache ≡ v
+      → ((m : Machine) → shifts g (get_or di i 0) (on_cache (bus_in x s) cache m) ≡ on_cache (bus_in x' s) cache' m) → answer g (bus_in x s) cache ≡ v
       → Along g s cache₀ di out₀ cache' (set out i v) x' (i + 1)
   along_one x' cache' v l k f e =
-      record { upto = upto-one h.upto v l; cache-long = k ∙ h.cache-long; done = λ m. rw (← (f m)) (fed-one h.upto (h.done m) v l e) }
+      record { upto = upto_one h.upto v l; cache_long = k ∙ h.cache_long; done = λ m. rw (← (f m)) (fed_one h.upto (h.done m) v l e) }
 
   -- one byte in a stream, or one as the bus takes it
-  pub along-moves : {c c' : Column} {cache' : List ℕ} {v : ℕ} → x ≡ (atColumn c s).bus → i < length di → length cache' ≡ length cache
-      → Moves g s c c' cache cache' (get_or di i 0) v → Along g s cache₀ di out₀ cache' (set out i v) (atColumn c' s).bus (i + 1)
-  along-moves {c} {c'} {cache'} {v} e l k p = along_one (atColumn c' s).bus cache' v l k (λ m. rw e (p.0 m)) (rw e p.1)
+  pub along_moves : {c c' : Column} {cache' : List ℕ} {v : ℕ} → x ≡ (at_column c s).bus → i < length di → length cache' ≡ length cache
+      → Moves g s c c' cache cache' (get_or di i 0) v → Along g s cache₀ di out₀ cache' (set out i v) (at_column c' s).bus (i + 1)
+  along_moves {c} {c'} {cache'} {v} e l k p = along_one (at_column c' s).bus cache' v l k (λ m. rw e (p.0 m)) (rw e p.1)
 
-  pub along-bus : (busy : Bool) (x' : Bus) (cache' : List ℕ) (v : ℕ) → i < length di → length cache' ≡ length cache → busy ≡ oip s.regs.c0
-      → x' ≡ shiftedIn g busy (get_or di i 0) x → cache' ≡ cached g x (get_or di i 0) cache → v ≡ byteOut g s.regs x cache
+  pub along_bus : (busy : Bool) (x' : Bus) (cache' : List ℕ) (v : ℕ) → i < length di → length cache' ≡ length cache → busy ≡ oip s.regs.c0
+      → x' ≡ shifted_in g busy (get_or di i 0) x → cache' ≡ cached g x (get_or di i 0) cache → v ≡ byte_out g s.regs x cache
       → Along g s cache₀ di out₀ cache' (set out i v) x' (i + 1)
   unfolding shifts answer
-  along-bus busy x' cache' v l k y p q e = along_one x' cache' v l k (λ m. rw (p, q, y)) (sym e)
+  along_bus busy x' cache' v l k y p q e = along_one x' cache' v l k (λ m. rw (p, q, y)) (sym e)
 
   -- all of them
-  pub along-all : length di ≤ i → Exchanged g s cache₀ di out₀ (busIn x s) cache out
-  along-all l = record { after = λ m. (fed-all h.upto (h.done m) l).0; lies = λ m. (fed-all h.upto (h.done m) l).1 }
+  pub along_all : length di ≤ i → Exchanged g s cache₀ di out₀ (bus_in x s) cache out
+  along_all l = record { after = λ m. (fed_all h.upto (h.done m) l).0; lies = λ m. (fed_all h.upto (h.done m) l).1 }
 
   -- the rest in one piece
-  pub along-part : (s₁ : State) (cache₁ out₁ : List ℕ) → Exchanged g (busIn x s) cache (take (length di - i) (drop i di)) (take (length out - i) (drop i out)) s₁ cache₁ out₁
+  pub along_part : (s₁ : State) (cache₁ out₁ : List ℕ) → Exchanged g (bus_in x s) cache (take (length di - i) (drop i di)) (take (length out - i) (drop i out)) s₁ cache₁ out₁
       → Exchanged g s cache₀ di out₀ s₁ cache₁ (take i out ++ (out₁ ++ drop (length out - i) (drop i out)))
-  along-part s₁ cache₁ out₁ y =
+  along_part s₁ cache₁ out₁ y =
       record {
-        after = λ m. (fed-part h.upto (h.done m) (onCache s₁ cache₁ m) out₁ (y.after m) (y.lies m)).0;
-        lies = λ m. (fed-part h.upto (h.done m) (onCache s₁ cache₁ m) out₁ (y.after m) (y.lies m)).1;
+        after = λ m. (fed_part h.upto (h.done m) (on_cache s₁ cache₁ m) out₁ (y.after m) (y.lies m)).0;
+        lies = λ m. (fed_part h.upto (h.done m) (on_cache s₁ cache₁ m) out₁ (y.after m) (y.lies m)).1;
       }

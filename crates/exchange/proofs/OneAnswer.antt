@@ -9,8 +9,8 @@ use Rattle.exchange.proofs.shifts.Kinds as shifts-kinds
 use Rattle.exchange.proofs.transfer.Reads as transfer-reads
 use Rattle.exchange.proofs.transfer.Kinds as transfer-kinds
 
-pub shifts-one : OneEnd 5 shifts-kinds.ps shifts-kinds.r Lent (λ κs s. lent s.1.1.1.0.now s.1.1.1.1.0.now s.1.1.1.1.1.0.now s.1.1.1.1.1.1.0.now) shifts-reads.Post
-shifts-one κs a x y s t p q = (ap (λ (e : End). e.answer) (p ∙ sym q), ap lent_of (p ∙ sym q))
+pub shifts_one : OneEnd 5 shifts-kinds.ps shifts-kinds.r Lent (λ κs s. lent s.1.1.1.0.now s.1.1.1.1.0.now s.1.1.1.1.1.0.now s.1.1.1.1.1.1.0.now) shifts-reads.Post
+shifts_one κs a x y s t p q = (ap (λ (e : End). e.answer) (p ∙ sym q), ap lent_of (p ∙ sym q))
 
-pub transfer-one : OneEnd 5 transfer-kinds.ps transfer-kinds.r Lent (λ κs s. lent s.1.1.1.0.now s.1.1.1.1.0.now s.1.1.1.1.1.0.now s.1.1.1.1.1.1.0.now) transfer-reads.Post
-transfer-one κs a x y s t p q = (ap (λ (e : End). e.answer) (p ∙ sym q), ap lent_of (p ∙ sym q))
+pub transfer_one : OneEnd 5 transfer-kinds.ps transfer-kinds.r Lent (λ κs s. lent s.1.1.1.0.now s.1.1.1.1.0.now s.1.1.1.1.1.0.now s.1.1.1.1.1.1.0.now) transfer-reads.Post
+transfer_one κs a x y s t p q = (ap (λ (e : End). e.answer) (p ∙ sym q), ap lent_of (p ∙ sym q))

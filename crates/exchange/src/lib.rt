@@ -7,7 +7,7 @@ ghost use Rattle.device.specs.Machine.{machine};
 ghost use Rattle.device.specs.Work.{unitwise};
 ghost use Rattle.model.specs.Runs.{run_of, seen, shown};
 ghost use Rattle.stream.specs.Streams.{Past, loading, streams};
-ghost use Rattle.exchange.specs.Exchange.{shiftsOf, transferOf, unlogged, Exchanged};
+ghost use Rattle.exchange.specs.Exchange.{shifts_of, transfer_of, unlogged, Exchanged};
 
 use buslog::Record;
 use device::State;
@@ -100,7 +100,7 @@ pub fn shifts(
     out: &mut [u8],
 ) -> Answer
     ensures { seen result cells.new cache.new counts.new out.new
-        ≡ unlogged (shown (run_of g (unitwise g) (length out.old) (written (shiftsOf di.now)) (machine state cells.old cache.old counts.old)) out.old) }
+        ≡ unlogged (shown (run_of g (unitwise g) (length out.old) (written (shifts_of di.now)) (machine state cells.old cache.old counts.old)) out.old) }
 {
     let k = refusals::check(g, state, cells.len(), cache.len(), counts.len());
     if !refusals::passes(k) {
@@ -138,7 +138,7 @@ pub fn transfer(
     out: &mut [u8],
 ) -> Answer
     ensures { seen result cells.new cache.new counts.new out.new
-        ≡ unlogged (shown (run_of g (unitwise g) (length out.old) (written (transferOf di.now)) (machine state cells.old cache.old counts.old)) out.old) }
+        ≡ unlogged (shown (run_of g (unitwise g) (length out.old) (written (transfer_of di.now)) (machine state cells.old cache.old counts.old)) out.old) }
 {
     let k = refusals::check(g, state, cells.len(), cache.len(), counts.len());
     if !refusals::passes(k) {

@@ -11,7 +11,7 @@ use Rattle.codes.specs.Codes.{byte_of}
 use Rattle.transfer.specs.Transfer.{fresh}
 use Rattle.codes.specs.declared.Instruction.{Instruction}
 use Rattle.codes.specs.declared.Instruction.TheVariants.{Ignored, WriteEnable, WriteDisable, GetFeature, SetFeature, ReadId, PageRead, ReadCache, Load, LoadRandom, Execute, BlockErase, Reset}
-use Rattle.device.specs.Sound.{soundState}
+use Rattle.device.specs.Sound.{sound_state}
 use Rattle.device.specs.declared.State.{State}
 use Rattle.face.specs.declared.CState.{CState}
 use Rattle.face.specs.declared.Code.{Code}
@@ -24,8 +24,8 @@ use Rattle.face.specs.declared.Told.TheVariants.{Good, Bad}
 -- ---- what a state's numbers stand for
 
 -- the instruction of a code; a code that no instruction has stands for none
-abbrev pub instructionAt : ℕ → Code
-instructionAt k =
+abbrev pub instruction_at : ℕ → Code
+instruction_at k =
     if eqb k 256 then Known Ignored
     else if eqb k 0x06 then Known WriteEnable
     else if eqb k 0x04 then Known WriteDisable
@@ -46,8 +46,8 @@ abbrev pub row : ℕ → Row
 row r = record { 0 = r }
 
 -- the operation: 0 none, and then no row and no units; 1 read, 2 program, 3 erase; 4 reset, and then no row
-abbrev pub workAt : ℕ → ℕ → ℕ → Doing
-workAt job r units =
+abbrev pub work_at : ℕ → ℕ → ℕ → Doing
+work_at job r units =
     if eqb job 0 then (if eqb r 0 then (if eqb units 0 then Going Idle else Nowhere) else Nowhere)
     else if eqb job 1 then Going (Busy (Read (row r)) units)
     else if eqb job 2 then Going (Busy (Program (row r)) units)
@@ -56,8 +56,8 @@ workAt job r units =
     else Nowhere
 
 -- the state with an instruction and an operation; 1 is a flag that is set
-abbrev pub stateAs : CState → Instruction → Work → State
-stateAs c i w =
+abbrev pub state_as : CState → Instruction → Work → State
+state_as c i w =
     record {
       regs = record { a0 = c.a0; b0 = c.b0; c0 = c.c0; d0 = c.d0 };
       bus =
@@ -78,22 +78,22 @@ stateAs c i w =
     }
 
 -- a flag is 0 or 1
-abbrev pub flagsGood : CState → Bool
-flagsGood c = leb c.wp 1 && leb c.selected 1
+abbrev pub flags_good : CState → Bool
+flags_good c = leb c.wp 1 && leb c.selected 1
 
 -- with an operation and good flags there is a state
-abbrev pub toldWork : CState → Instruction → Doing → Told
-toldWork c i (Going w) = if flagsGood c then Good (stateAs c i w) else Bad
-toldWork c i Nowhere = Bad
+abbrev pub told_work : CState → Instruction → Doing → Told
+told_work c i (Going w) = if flags_good c then Good (state_as c i w) else Bad
+told_work c i Nowhere = Bad
 
 -- with no instruction there is none
-abbrev pub toldCode : CState → Code → Doing → Told
-toldCode c (Known i) d = toldWork c i d
-toldCode c Unknown d = Bad
+abbrev pub told_code : CState → Code → Doing → Told
+told_code c (Known i) d = told_work c i d
+told_code c Unknown d = Bad
 
 -- the state that the numbers stand for, if they stand for one
 unfoldable pub state_of : CState → Told
-state_of c = toldCode c (instructionAt c.instruction) (workAt c.job c.row c.units)
+state_of c = told_code c (instruction_at c.instruction) (work_at c.job c.row c.units)
 
 -- ---- from a state to its numbers
 
@@ -124,40 +124,40 @@ faced s job r units =
     }
 
 -- the same by the job
-abbrev pub facedJob : State → Job → ℕ → CState
-facedJob s (Read r) units = faced s 1 r.0 units
-facedJob s (Program r) units = faced s 2 r.0 units
-facedJob s (Erase r) units = faced s 3 r.0 units
-facedJob s Restart units = faced s 4 0 units
+abbrev pub faced_job : State → Job → ℕ → CState
+faced_job s (Read r) units = faced s 1 r.0 units
+faced_job s (Program r) units = faced s 2 r.0 units
+faced_job s (Erase r) units = faced s 3 r.0 units
+faced_job s Restart units = faced s 4 0 units
 
 -- and idle, without row and units
-abbrev pub facedWork : State → Work → CState
-facedWork s Idle = faced s 0 0 0
-facedWork s (Busy j units) = facedJob s j units
+abbrev pub faced_work : State → Work → CState
+faced_work s Idle = faced s 0 0 0
+faced_work s (Busy j units) = faced_job s j units
 
 -- the numbers of a state
-unfoldable pub faceOf : State → CState
-faceOf s = facedWork s s.work
+unfoldable pub face_of : State → CState
+face_of s = faced_work s s.work
 
 -- ---- whether they stand for a sound state
 
 -- no state is not sound
-abbrev pub soundTold : Geometry → Told → Bool
-soundTold g (Good s) = soundState g s
-soundTold g Bad = false
+abbrev pub sound_told : Geometry → Told → Bool
+sound_told g (Good s) = sound_state g s
+sound_told g Bad = false
 
 -- ---- numbers that stand for no state: a state stands in for them, and they are given back as they came
 
 -- a state that is sound on no part: its status register has bits above bit 3
-abbrev pub noState : State
-noState = record { regs = record { a0 = 0; b0 = 0; c0 = 0xF0; d0 = 0 }; bus = record { pins = record { wp = false }; transfer = fresh false }; work = Idle }
+abbrev pub no_state : State
+no_state = record { regs = record { a0 = 0; b0 = 0; c0 = 0xF0; d0 = 0 }; bus = record { pins = record { wp = false }; transfer = fresh false }; work = Idle }
 
 -- the state to run
-abbrev pub standIn : Told → State
-standIn (Good s) = s
-standIn Bad = noState
+abbrev pub stand_in : Told → State
+stand_in (Good s) = s
+stand_in Bad = no_state
 
 -- the numbers to give back: those of the state after, or those that came
-abbrev pub handedBack : Told → CState → State → CState
-handedBack (Good s) c after = faceOf after
-handedBack Bad c after = c
+abbrev pub handed_back : Told → CState → State → CState
+handed_back (Good s) c after = face_of after
+handed_back Bad c after = c

@@ -1,7 +1,7 @@
 // A device state in the numbers of C: the structs of include/sleetanvil.h around it, and what its numbers stand for.
 ghost use Rattle.std.specs.Prelude.{◌≡◌};
 ghost use Rattle.part_numbers.specs.Numbers.{part_of};
-ghost use Rattle.face.specs.Face.{instructionAt, workAt, stateAs, state_of, flag, faced, facedJob, faceOf, soundTold, noState, standIn, handedBack};
+ghost use Rattle.face.specs.Face.{instruction_at, work_at, state_as, state_of, flag, faced, faced_job, face_of, sound_told, no_state, stand_in, handed_back};
 
 use array::{Job, Work};
 use codes::Instruction;
@@ -82,7 +82,7 @@ pub enum Told {
 
 // The instruction of a code.
 fn instruction_at(code: u16) -> Code
-    ensures { result ≡ instructionAt code }
+    ensures { result ≡ instruction_at code }
 {
     match code {
         256 => Code::Known(Instruction::Ignored),
@@ -104,7 +104,7 @@ fn instruction_at(code: u16) -> Code
 
 // The operation of a job, a row and units.
 fn work_at(job: u8, row: u16, units: usize) -> Doing
-    ensures { result ≡ workAt job row units }
+    ensures { result ≡ work_at job row units }
 {
     match job {
         0 => {
@@ -130,7 +130,7 @@ fn work_at(job: u8, row: u16, units: usize) -> Doing
 
 // The state of some numbers, with an instruction and an operation.
 fn state_as(c: CState, i: Instruction, w: Work) -> State
-    ensures { result ≡ stateAs c i w }
+    ensures { result ≡ state_as c i w }
 {
     State {
         regs: Registers {
@@ -214,7 +214,7 @@ fn faced(s: State, job: u8, row: u16, units: usize) -> CState
 
 // The same of a state with a job.
 fn faced_job(s: State, job: Job, units: usize) -> CState
-    ensures { result ≡ facedJob s job units }
+    ensures { result ≡ faced_job s job units }
 {
     match job {
         Job::Read(row) => faced(s, 1, row.0, units),
@@ -226,7 +226,7 @@ fn faced_job(s: State, job: Job, units: usize) -> CState
 
 // The numbers of a state.
 pub fn face_of(s: State) -> CState
-    ensures { result ≡ faceOf s }
+    ensures { result ≡ face_of s }
 {
     let w = s.work;
     match w {
@@ -237,7 +237,7 @@ pub fn face_of(s: State) -> CState
 
 // Whether the state that numbers stand for is sound on a part.
 pub fn state_sound(part: CGeometry, state: CState) -> bool
-    ensures { result ≡ soundTold (part_of part) (state_of state) }
+    ensures { result ≡ sound_told (part_of part) (state_of state) }
 {
     let g = part_numbers::part_of(part);
     match state_of(state) {
@@ -248,7 +248,7 @@ pub fn state_sound(part: CGeometry, state: CState) -> bool
 
 // A state that is sound on no part.
 fn no_state() -> State
-    ensures { result ≡ noState }
+    ensures { result ≡ no_state }
 {
     State {
         regs: Registers {
@@ -267,7 +267,7 @@ fn no_state() -> State
 
 // The state to run: the one that numbers stand for, or else one that is sound on no part.
 pub fn stand_in(x: Told) -> State
-    ensures { result ≡ standIn x }
+    ensures { result ≡ stand_in x }
 {
     match x {
         Told::Good(s) => s,
@@ -277,7 +277,7 @@ pub fn stand_in(x: Told) -> State
 
 // The numbers of the state that came back; those that stood for no state come back as they were.
 pub fn handed_back(x: Told, c: CState, after: State) -> CState
-    ensures { result ≡ handedBack x c after }
+    ensures { result ≡ handed_back x c after }
 {
     match x {
         Told::Good(_) => face_of(after),

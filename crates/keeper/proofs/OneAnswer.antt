@@ -14,20 +14,20 @@ use Rattle.keeper.proofs.Keeper.add.Kinds as add-kinds
 use Rattle.keeper.proofs.Keeper.grant.Reads as grant-reads
 use Rattle.keeper.proofs.Keeper.grant.Kinds as grant-kinds
 
-pub number-of-one : OneAnswer 0 number-of-kinds.ps number-of-kinds.r number-of-reads.Post
-number-of-one κs a x y s t p q = p ∙ sym q
+pub number_of_one : OneAnswer 0 number-of-kinds.ps number-of-kinds.r number-of-reads.Post
+number_of_one κs a x y s t p q = p ∙ sym q
 
-pub queue-sound-one : OneAnswer 0 queue-sound-kinds.ps queue-sound-kinds.r queue-sound-reads.Post
-queue-sound-one κs a x y s t p q = p ∙ sym q
+pub queue_sound_one : OneAnswer 0 queue-sound-kinds.ps queue-sound-kinds.r queue-sound-reads.Post
+queue_sound_one κs a x y s t p q = p ∙ sym q
 
-pub new-one : OneAnswer 0 new-kinds.ps new-kinds.r new-reads.Post
-new-one κs a x y s t p q = p ∙ sym q
+pub new_one : OneAnswer 0 new-kinds.ps new-kinds.r new-reads.Post
+new_one κs a x y s t p q = p ∙ sym q
 
-pub sound-one : OneAnswer 0 sound-kinds.ps sound-kinds.r sound-reads.Post
-sound-one κs a x y s t p q = p ∙ sym q
+pub sound_one : OneAnswer 0 sound-kinds.ps sound-kinds.r sound-reads.Post
+sound_one κs a x y s t p q = p ∙ sym q
 
-pub add-one : OneAnswer 0 add-kinds.ps add-kinds.r add_reads.Post
-add-one κs a x y s t p q = p ∙ sym q
+pub add_one : OneAnswer 0 add-kinds.ps add-kinds.r add_reads.Post
+add_one κs a x y s t p q = p ∙ sym q
 
-pub grant-one : OneAnswer 0 grant-kinds.ps grant-kinds.r grant-reads.Post
-grant-one κs a x y s t p q = p ∙ sym q
+pub grant_one : OneAnswer 0 grant-kinds.ps grant-kinds.r grant-reads.Post
+grant_one κs a x y s t p q = p ∙ sym q

@@ -17,25 +17,25 @@ abbrev pub queue : List ℕ → ℕ → ℕ → Queue
 queue tags head len = record { tags = tags; head = head; length = len }
 
 -- what stands for the queue of a core that is not there
-abbrev pub noQueue : Queue
-noQueue = queue [] 0 0
+abbrev pub no_queue : Queue
+no_queue = queue [] 0 0
 
 -- the queue of a core
-abbrev pub queueAt : Keeper → ℕ → Queue
-queueAt k core = get_or k.queues core noQueue
+abbrev pub queue_at : Keeper → ℕ → Queue
+queue_at k core = get_or k.queues core no_queue
 
 -- n tags from a place on, round from place 7 to 0
-unfoldable pub tagsFrom : List ℕ → ℕ → ℕ → List ℕ
-tagsFrom tags place zero = []
-tagsFrom tags place (suc n) = get_or tags place 0 ∷ tagsFrom tags ((place + 1) % 8) n
+unfoldable pub tags_from : List ℕ → ℕ → ℕ → List ℕ
+tags_from tags place zero = []
+tags_from tags place (suc n) = get_or tags place 0 ∷ tags_from tags ((place + 1) % 8) n
 
 -- the transfers that wait in a queue, the front first
-abbrev pub waitingIn : Queue → List ℕ
-waitingIn q = tagsFrom q.tags q.head q.length
+abbrev pub waiting_in : Queue → List ℕ
+waiting_in q = tags_from q.tags q.head q.length
 
 -- the transfers of a core that wait
 abbrev pub waiting : Keeper → ℕ → List ℕ
-waiting k core = waitingIn (queueAt k core)
+waiting k core = waiting_in (queue_at k core)
 
 -- ---- a sound keeper: no queue length above eight, no queue place and no last core out of range
 
@@ -47,20 +47,20 @@ pub record SoundQueue (q : Queue) : Type 0 where
 -- the last core, and the queues of all four
 pub record SoundKeeper (k : Keeper) : Type 0 where
   pub last : k.last < 4
-  pub queues : (core : ℕ) → core < 4 → SoundQueue (queueAt k core)
+  pub queues : (core : ℕ) → core < 4 → SoundQueue (queue_at k core)
 
 -- a queue, as a test
-abbrev pub queueSound : Queue → Bool
-queueSound q = ltb q.head 8 && leb q.length 8
+abbrev pub queue_sound : Queue → Bool
+queue_sound q = ltb q.head 8 && leb q.length 8
 
 -- n queues, from that of a core on
-unfoldable pub soundFrom : Keeper → ℕ → ℕ → Bool
-soundFrom k core zero = true
-soundFrom k core (suc n) = queueSound (queueAt k core) && soundFrom k (core + 1) n
+unfoldable pub sound_from : Keeper → ℕ → ℕ → Bool
+sound_from k core zero = true
+sound_from k core (suc n) = queue_sound (queue_at k core) && sound_from k (core + 1) n
 
 -- a keeper
-unfoldable pub keeperSound : Keeper → Bool
-keeperSound k = ltb k.last 4 && soundFrom k 0 4
+unfoldable pub keeper_sound : Keeper → Bool
+keeper_sound k = ltb k.last 4 && sound_from k 0 4
 
 -- ---- the refusals
 
@@ -75,18 +75,18 @@ number_of BadKeeper = 20
 -- ---- a new keeper
 
 -- nothing waits
-abbrev pub emptyQueue : Queue
-emptyQueue = queue (0 ∷ 0 ∷ 0 ∷ 0 ∷ 0 ∷ 0 ∷ 0 ∷ 0 ∷ []) 0 0
+abbrev pub empty_queue : Queue
+empty_queue = queue (0 ∷ 0 ∷ 0 ∷ 0 ∷ 0 ∷ 0 ∷ 0 ∷ 0 ∷ []) 0 0
 
 -- at first a grant looks from core 0, the core after core 3
-abbrev pub newKeeper : Keeper
-newKeeper = record { queues = emptyQueue ∷ emptyQueue ∷ emptyQueue ∷ emptyQueue ∷ []; last = 3 }
+abbrev pub new_keeper : Keeper
+new_keeper = record { queues = empty_queue ∷ empty_queue ∷ empty_queue ∷ empty_queue ∷ []; last = 3 }
 
 -- ---- adding goes to the back of a core's queue
 
 -- a keeper with another queue for a core, and another core granted last
-abbrev pub withQueue : Keeper → ℕ → Queue → ℕ → Keeper
-withQueue k core q last = record { queues = set k.queues core q; last = last }
+abbrev pub with_queue : Keeper → ℕ → Queue → ℕ → Keeper
+with_queue k core q last = record { queues = set k.queues core q; last = last }
 
 -- a tag at the back: behind the last one that waits
 abbrev pub put_of : Queue → ℕ → Queue
@@ -97,45 +97,45 @@ abbrev pub added : Keeper → Refused → Added
 added k refused = record { keeper = k; refused = refused }
 
 -- 20 first, then 14, then 15; each leaves the keeper as it was
-unfoldable pub addOf : Keeper → ℕ → ℕ → Added
-addOf k core tag =
-    if not (keeperSound k) then added k BadKeeper
+unfoldable pub add_of : Keeper → ℕ → ℕ → Added
+add_of k core tag =
+    if not (keeper_sound k) then added k BadKeeper
     else if leb 4 core then added k BadCore
-    else if eqb (queueAt k core).length 8 then added k QueueFull
-    else added (withQueue k core (put_of (queueAt k core) tag) k.last) Not
+    else if eqb (queue_at k core).length 8 then added k QueueFull
+    else added (with_queue k core (put_of (queue_at k core) tag) k.last) Not
 
 -- ---- a grant takes the front of the first non-empty queue from the core after the last granted, round from 3 to 0
 
 -- the tag at the front
-abbrev pub frontOf : Queue → ℕ
-frontOf q = get_or q.tags q.head 0
+abbrev pub front_of : Queue → ℕ
+front_of q = get_or q.tags q.head 0
 
 -- a queue without its front
 abbrev pub rest_of : Queue → Queue
 rest_of q = queue q.tags ((q.head + 1) % 8) (q.length - 1)
 
 -- the first of n cores whose queue is not empty, from a core on, round from 3 to 0
-unfoldable pub firstFrom : Keeper → ℕ → ℕ → Turn
-firstFrom k core zero = Nobody
-firstFrom k core (suc n) = if ltb 0 (queueAt k core).length then Of core else firstFrom k ((core + 1) % 4) n
+unfoldable pub first_from : Keeper → ℕ → ℕ → Turn
+first_from k core zero = Nobody
+first_from k core (suc n) = if ltb 0 (queue_at k core).length then Of core else first_from k ((core + 1) % 4) n
 
 -- of all four, from the core after the last granted
-abbrev pub whoseTurn : Keeper → Turn
-whoseTurn k = firstFrom k ((k.last + 1) % 4) 4
+abbrev pub whose_turn : Keeper → Turn
+whose_turn k = first_from k ((k.last + 1) % 4) 4
 
 -- what comes of a grant
 abbrev pub granted : Keeper → Refused → ℕ → ℕ → Granted
 granted k refused core tag = record { keeper = k; refused = refused; core = core; tag = tag }
 
 -- the front of a core's queue is taken, and the core is the last granted
-abbrev pub takenFrom : Keeper → ℕ → Granted
-takenFrom k core = granted (withQueue k core (rest_of (queueAt k core)) core) Not core (frontOf (queueAt k core))
+abbrev pub taken_from : Keeper → ℕ → Granted
+taken_from k core = granted (with_queue k core (rest_of (queue_at k core)) core) Not core (front_of (queue_at k core))
 
 -- by whose turn it is
 abbrev pub served : Keeper → Turn → Granted
-served k (Of core) = takenFrom k core
+served k (Of core) = taken_from k core
 served k Nobody = granted k AllEmpty 0 0
 
 -- 20 first, then 16; each leaves the keeper as it was
-unfoldable pub grantOf : Keeper → Granted
-grantOf k = if not (keeperSound k) then granted k BadKeeper 0 0 else served k (whoseTurn k)
+unfoldable pub grant_of : Keeper → Granted
+grant_of k = if not (keeper_sound k) then granted k BadKeeper 0 0 else served k (whose_turn k)

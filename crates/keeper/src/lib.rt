@@ -1,7 +1,7 @@
 // The keeper of the bus: four cores share one chip select, and each has a queue of transfers that wait. Document 02, item 9.
 ghost use Rattle.std.specs.Prelude.{◌≡◌, ◌<◌};
-ghost use Rattle.keeper.specs.Keeper.{queueSound, keeperSound, newKeeper, queueAt, withQueue, put_of, frontOf, rest_of};
-ghost use Rattle.keeper.specs.Keeper.{number_of, added, addOf, granted, whoseTurn, takenFrom, grantOf};
+ghost use Rattle.keeper.specs.Keeper.{queue_sound, keeper_sound, new_keeper, queue_at, with_queue, put_of, front_of, rest_of};
+ghost use Rattle.keeper.specs.Keeper.{number_of, added, add_of, granted, whose_turn, taken_from, grant_of};
 
 // The transfers of one core that wait: `length` tags from place `head` on, round from place 7 to 0. The other places mean nothing.
 #[repr(C)]
@@ -69,7 +69,7 @@ pub fn number_of(r: Refused) -> u8
 impl Queue {
     // Whether place and length are in range.
     pub fn sound(self) -> bool
-        ensures { result ≡ queueSound self }
+        ensures { result ≡ queue_sound self }
     {
         self.head < 8 && self.length <= 8
     }
@@ -89,7 +89,7 @@ impl Queue {
     // The tag at the front.
     fn front(self) -> u8
         requires { self.head < 8 }
-        ensures { result ≡ frontOf self }
+        ensures { result ≡ front_of self }
     {
         let place = self.head as usize;
         self.tags[place]
@@ -110,7 +110,7 @@ impl Queue {
 impl Keeper {
     // Four empty queues, and the first grant looks from core 0.
     pub fn new() -> Keeper
-        ensures { result ≡ newKeeper }
+        ensures { result ≡ new_keeper }
     {
         let q = Queue {
             tags: [0; 8],
@@ -126,7 +126,7 @@ impl Keeper {
     // The queue of a core.
     fn queue(self, core: u8) -> Queue
         requires { core < 4 }
-        ensures { result ≡ queueAt self core }
+        ensures { result ≡ queue_at self core }
     {
         let c = core as usize;
         self.queues[c]
@@ -135,7 +135,7 @@ impl Keeper {
     // Another queue for a core, and another core granted last.
     fn with(self, core: u8, q: Queue, last: u8) -> Keeper
         requires { core < 4 }
-        ensures { result ≡ withQueue self core q last }
+        ensures { result ≡ with_queue self core q last }
     {
         let c = core as usize;
         let mut k = self;
@@ -146,7 +146,7 @@ impl Keeper {
 
     // Whether the last core and every queue are in range.
     pub fn sound(self) -> bool
-        ensures { result ≡ keeperSound self }
+        ensures { result ≡ keeper_sound self }
     {
         if 4 <= self.last {
             return false;
@@ -163,7 +163,7 @@ impl Keeper {
 
     // A transfer to the back of a core's queue.
     pub fn add(self, core: u8, tag: u8) -> Added
-        ensures { result ≡ addOf self core tag }
+        ensures { result ≡ add_of self core tag }
     {
         if !self.sound() {
             return not_added(self, Refused::BadKeeper);
@@ -184,7 +184,7 @@ impl Keeper {
     // Whose turn it is: the first core with a transfer waiting, from the core after the last granted, round from 3 to 0.
     fn whose_turn(self) -> Turn
         requires { self.last < 4 }
-        ensures { result ≡ whoseTurn self }
+        ensures { result ≡ whose_turn self }
     {
         let mut core = (self.last + 1) % 4;
         let mut left = 4u8;
@@ -200,8 +200,8 @@ impl Keeper {
 
     // The front of a core's queue is taken.
     fn take(self, core: u8) -> Granted
-        requires { (core < 4) × ((queueAt self core).head < 8) × (0 < (queueAt self core).length) }
-        ensures { result ≡ takenFrom self core }
+        requires { (core < 4) × ((queue_at self core).head < 8) × (0 < (queue_at self core).length) }
+        ensures { result ≡ taken_from self core }
     {
         let own = self.queue(core);
         Granted {
@@ -214,7 +214,7 @@ impl Keeper {
 
     // The next transfer on the bus, taken from the front of its core's queue.
     pub fn grant(self) -> Granted
-        ensures { result ≡ grantOf self }
+        ensures { result ≡ grant_of self }
     {
         if !self.sound() {
             return not_granted(self, Refused::BadKeeper);

@@ -6,9 +6,9 @@ use Rattle.keeper_face.specs.declared.CAdded.{CAdded}
 use Rattle.keeper_face.specs.declared.CGranted.{CGranted}
 
 -- an adding
-abbrev pub faceAdded : Added → CAdded
-faceAdded a = record { keeper = a.keeper; refusal = number_of a.refused }
+abbrev pub face_added : Added → CAdded
+face_added a = record { keeper = a.keeper; refusal = number_of a.refused }
 
 -- a grant
-abbrev pub faceGranted : Granted → CGranted
-faceGranted g = record { keeper = g.keeper; refusal = number_of g.refused; core = g.core; tag = g.tag }
+abbrev pub face_granted : Granted → CGranted
+face_granted g = record { keeper = g.keeper; refusal = number_of g.refused; core = g.core; tag = g.tag }

@@ -1,8 +1,8 @@
 // The keeper in C: the functions of include/sleetanvil.h, "four cores at one chip select". A keeper is the same struct outside and inside,
 // and every content of it is answered; refusals are numbers outside.
 ghost use Rattle.std.specs.Prelude.{◌≡◌};
-ghost use Rattle.keeper.specs.Keeper.{newKeeper, addOf, grantOf};
-ghost use Rattle.keeper_face.specs.Face.{faceAdded, faceGranted};
+ghost use Rattle.keeper.specs.Keeper.{new_keeper, add_of, grant_of};
+ghost use Rattle.keeper_face.specs.Face.{face_added, face_granted};
 
 use keeper::Keeper;
 
@@ -27,7 +27,7 @@ pub struct CGranted {
 // A new keeper.
 #[unsafe(no_mangle)]
 pub extern "C" fn sleet_keeper_new() -> Keeper
-    ensures { result ≡ newKeeper }
+    ensures { result ≡ new_keeper }
 {
     Keeper::new()
 }
@@ -35,7 +35,7 @@ pub extern "C" fn sleet_keeper_new() -> Keeper
 // A transfer to the back of a core's queue.
 #[unsafe(no_mangle)]
 pub extern "C" fn sleet_keeper_add(keeper: Keeper, core: u8, tag: u8) -> CAdded
-    ensures { result ≡ faceAdded (addOf keeper core tag) }
+    ensures { result ≡ face_added (add_of keeper core tag) }
 {
     let a = keeper.add(core, tag);
     let k = a.keeper;
@@ -49,7 +49,7 @@ pub extern "C" fn sleet_keeper_add(keeper: Keeper, core: u8, tag: u8) -> CAdded
 // The transfer that is next.
 #[unsafe(no_mangle)]
 pub extern "C" fn sleet_keeper_grant(keeper: Keeper) -> CGranted
-    ensures { result ≡ faceGranted (grantOf keeper) }
+    ensures { result ≡ face_granted (grant_of keeper) }
 {
     let g = keeper.grant();
     let k = g.keeper;

@@ -9,8 +9,8 @@ use lib.ListN.{length}
 use borrow.Author.Tests.{ltb-true}
 use Rattle.part.specs.Part.{page, rows, Sound}
 use Rattle.part.specs.declared.Geometry.{Geometry}
-use Rattle.part.proofs.Choice.{cond-keep}
-use Rattle.registers.specs.Registers.{oipSet, oipCleared}
+use Rattle.part.proofs.Choice.{cond_keep}
+use Rattle.registers.specs.Registers.{oip_set, oip_cleared}
 use Rattle.registers.specs.declared.Registers.{Registers}
 use Rattle.array.specs.Jobs.{Store, length_of, written, InArray, Going, Fits}
 use Rattle.array.specs.declared.Job.{Job}
@@ -18,10 +18,10 @@ use Rattle.array.specs.declared.Job.TheVariants.{Read, Program, Erase, Restart}
 use Rattle.array.specs.declared.Work.{Work}
 use Rattle.array.specs.declared.Work.TheVariants.{Idle, Busy}
 use Rattle.soundness.specs.Soundness.{HighSound}
-use Rattle.device.specs.Machine.{Machine, statusIn, withStatus, withWork, overStore}
+use Rattle.device.specs.Machine.{Machine, status_in, with_status, with_work, over_store}
 use Rattle.device.specs.Work.{begun, begins, ended, unit_of, units}
-use Rattle.kept.proofs.Masks.{InMasks, masks-as}
-use Rattle.kept.proofs.Lengths.{written-fits}
+use Rattle.kept.proofs.Masks.{InMasks, masks_as}
+use Rattle.kept.proofs.Lengths.{written_fits}
 
 -- the work and bit 0 of the status register: OIP is 1 exactly while an operation is in progress, and that is sound
 abbrev pub Ready : Geometry → ℕ → Work → Type 0
@@ -36,8 +36,8 @@ pub record SaneOf (g : Geometry) (r : Registers) (w : Work) (s : Store) (l : Lis
   pub counts : length l ≡ rows g
 
 -- made in one place
-pub sane-made : (g : Geometry) (r : Registers) (w : Work) (s : Store) (l : List ℕ) → InMasks g r → HighSound (r.c0 / 16) → Ready g (r.c0 % 2) w → Fits g s → length l ≡ rows g → SaneOf g r w s l
-sane-made g r w s l k u e f c = record { masks = k; high = u; ready = e; fits = f; counts = c }
+pub sane_made : (g : Geometry) (r : Registers) (w : Work) (s : Store) (l : List ℕ) → InMasks g r → HighSound (r.c0 / 16) → Ready g (r.c0 % 2) w → Fits g s → length l ≡ rows g → SaneOf g r w s l
+sane_made g r w s l k u e f c = record { masks = k; high = u; ready = e; fits = f; counts = c }
 
 abbrev pub Sane : Geometry → Machine → Type 0
 Sane g m = SaneOf g m.state.regs m.state.work m.store m.counts
@@ -45,70 +45,70 @@ Sane g m = SaneOf g m.state.regs m.state.work m.store m.counts
 -- ---- registers and work changed, or memory: the rest is as it was
 
 module _ (g : Geometry) {r : Registers} {w : Work} {s : Store} {l : List ℕ} where
-  pub over-state : (r' : Registers) (w' : Work) → InMasks g r' → HighSound (r'.c0 / 16) → Ready g (r'.c0 % 2) w' → SaneOf g r w s l → SaneOf g r' w' s l
-  over-state r' w' k u e h = sane-made g r' w' s l k u e h.fits h.counts
+  pub over_state : (r' : Registers) (w' : Work) → InMasks g r' → HighSound (r'.c0 / 16) → Ready g (r'.c0 % 2) w' → SaneOf g r w s l → SaneOf g r' w' s l
+  over_state r' w' k u e h = sane_made g r' w' s l k u e h.fits h.counts
 
-  pub over-memory : (s' : Store) (l' : List ℕ) → Fits g s' → length l' ≡ rows g → SaneOf g r w s l → SaneOf g r w s' l'
-  over-memory s' l' f e h = sane-made g r w s' l' h.masks h.high h.ready f e
+  pub over_memory : (s' : Store) (l' : List ℕ) → Fits g s' → length l' ≡ rows g → SaneOf g r w s l → SaneOf g r w s' l'
+  over_memory s' l' f e h = sane_made g r w s' l' h.masks h.high h.ready f e
 
 -- ---- the status register changed
 
-ready-as : (g : Geometry) (w : Work) (o o' : ℕ) → o' ≡ o → Ready g o w → Ready g o' w
-ready-as g Idle o o' e h = omega arith
-ready-as g (Busy j i) o o' e h = (omega (arith, h.0), h.1)
+ready_as : (g : Geometry) (w : Work) (o o' : ℕ) → o' ≡ o → Ready g o w → Ready g o' w
+ready_as g Idle o o' e h = omega arith
+ready_as g (Busy j i) o o' e h = (omega (arith, h.0), h.1)
 
 -- its high bits are as they were; and a register without them is sound
-high-kept : (c c' : ℕ) → c' / 16 ≡ c / 16 → HighSound (c / 16) → HighSound (c' / 16)
-high-kept c c' e h = subst HighSound (sym e) h
+high_kept : (c c' : ℕ) → c' / 16 ≡ c / 16 → HighSound (c / 16) → HighSound (c' / 16)
+high_kept c c' e h = subst HighSound (sym e) h
 
-pub none-high : HighSound 0
-none-high = refl
+pub none_high : HighSound 0
+none_high = refl
 
 -- high bits and OIP are as they were
-pub status-sane : (g : Geometry) (c : ℕ) (m : Machine) → c / 16 ≡ m.state.regs.c0 / 16 → c % 2 ≡ m.state.regs.c0 % 2 → Sane g m → Sane g (withStatus c m)
-status-sane g c m u e h =
+pub status_sane : (g : Geometry) (c : ℕ) (m : Machine) → c / 16 ≡ m.state.regs.c0 / 16 → c % 2 ≡ m.state.regs.c0 % 2 → Sane g m → Sane g (with_status c m)
+status_sane g c m u e h =
     let r = m.state.regs in
-    over-state g (statusIn c m.state).regs m.state.work (masks-as g h.masks) (high-kept r.c0 c u h.high) (ready-as g m.state.work (r.c0 % 2) (c % 2) e h.ready) h
+    over_state g (status_in c m.state).regs m.state.work (masks_as g h.masks) (high_kept r.c0 c u h.high) (ready_as g m.state.work (r.c0 % 2) (c % 2) e h.ready) h
 
 -- OIP is 0, and nothing is in progress: the high bits as they may be
-pub idle-sane : (g : Geometry) (c : ℕ) (m : Machine) → HighSound (c / 16) → c % 2 ≡ 0 → Sane g m → Sane g (withWork Idle (withStatus c m))
-idle-sane g c m u e h = over-state g (statusIn c m.state).regs Idle (masks-as g h.masks) u e h
+pub idle_sane : (g : Geometry) (c : ℕ) (m : Machine) → HighSound (c / 16) → c % 2 ≡ 0 → Sane g m → Sane g (with_work Idle (with_status c m))
+idle_sane g c m u e h = over_state g (status_in c m.state).regs Idle (masks_as g h.masks) u e h
 
 -- ---- an operation begins
 
 -- every operation of a sound part has a unit
-has-unit : (g : Geometry) → Sound g → (j : Job) → 0 < length_of g j
-has-unit g s (Read r) = omega (arith, s.some_bytes)
-has-unit g s (Program r) = omega (arith, s.some_bytes)
-has-unit g s (Erase r) = omega (arith, s.some_bytes, mul-le-mul_right (page g) s.some-pages)
-has-unit g s Restart = omega arith
+has_unit : (g : Geometry) → Sound g → (j : Job) → 0 < length_of g j
+has_unit g s (Read r) = omega (arith, s.some_bytes)
+has_unit g s (Program r) = omega (arith, s.some_bytes)
+has_unit g s (Erase r) = omega (arith, s.some_bytes, mul-le-mul_right (page g) s.some_pages)
+has_unit g s Restart = omega arith
 
-pub begun-sane : (g : Geometry) → Sound g → (j : Job) (m : Machine) → InArray g j → Sane g m → Sane g (begins j m)
-begun-sane g s j m a h =
+pub begun_sane : (g : Geometry) → Sound g → (j : Job) (m : Machine) → InArray g j → Sane g m → Sane g (begins j m)
+begun_sane g s j m a h =
     let c = m.state.regs.c0 in
-    over-state g (begun j m.state).regs (Busy j 0) (masks-as g h.masks) (high-kept c (oipSet c) (omega arith) h.high) (omega arith, record { unit_left = has-unit g s j; in-array = a }) h
+    over_state g (begun j m.state).regs (Busy j 0) (masks_as g h.masks) (high_kept c (oip_set c) (omega arith) h.high) (omega arith, record { unit_left = has_unit g s j; in_array = a }) h
 
 -- ---- units
 
 -- an operation's end
-ended-sane : (g : Geometry) (j : Job) (m : Machine) → Sane g m → Sane g (ended g j m)
-ended-sane g j m h = let c = m.state.regs.c0 in idle-sane g (oipCleared c) m (high-kept c (oipCleared c) (omega arith) h.high) (omega arith) h
+ended_sane : (g : Geometry) (j : Job) (m : Machine) → Sane g m → Sane g (ended g j m)
+ended_sane g j m h = let c = m.state.regs.c0 in idle_sane g (oip_cleared c) m (high_kept c (oip_cleared c) (omega arith) h.high) (omega arith) h
 
-unit-sane : (g : Geometry) (m : Machine) → Sane g m → Sane g (unit_of g m.state.work m)
+unit_sane : (g : Geometry) (m : Machine) → Sane g m → Sane g (unit_of g m.state.work m)
 unfolding unit_of
-unit-sane g m h = go m.state.work m h
+unit_sane g m h = go m.state.work m h
   where
-    go : (w : Work) (m : Machine) → Sane g (withWork w m) → Sane g (unit_of g w (withWork w m))
+    go : (w : Work) (m : Machine) → Sane g (with_work w m) → Sane g (unit_of g w (with_work w m))
     go Idle m h = h
     go (Busy j i) m h =
-        let f : Fits g (written g j i m.store) = written-fits g j i m.store h.fits in
-        let m₁ = overStore (written g j i) (withWork (Busy j i) m) in
-        let h₁ : Sane g m₁ = over-memory g (written g j i m.store) m.counts f h.counts h in
-        cond-keep (Sane g) (ltb (suc i) (length_of g j))
-        (λ e. over-state g m.state.regs (Busy j (suc i)) h.masks h.high (h.ready.0, record { unit_left = ltb-true (suc i) (length_of g j) e; in-array = h.ready.1.in-array }) h₁)
-        (λ e. ended-sane g j m₁ h₁)
+        let f : Fits g (written g j i m.store) = written_fits g j i m.store h.fits in
+        let m₁ = over_store (written g j i) (with_work (Busy j i) m) in
+        let h₁ : Sane g m₁ = over_memory g (written g j i m.store) m.counts f h.counts h in
+        cond_keep (Sane g) (ltb (suc i) (length_of g j))
+        (λ e. over_state g m.state.regs (Busy j (suc i)) h.masks h.high (h.ready.0, record { unit_left = ltb-true (suc i) (length_of g j) e; in_array = h.ready.1.in_array }) h₁)
+        (λ e. ended_sane g j m₁ h₁)
 
-pub units-sane : (g : Geometry) (n : ℕ) (m : Machine) → Sane g m → Sane g (units g n m)
+pub units_sane : (g : Geometry) (n : ℕ) (m : Machine) → Sane g m → Sane g (units g n m)
 unfolding units
-units-sane g zero m h = h
-units-sane g (suc n) m h = units-sane g n (unit_of g m.state.work m) (unit-sane g m h)
+units_sane g zero m h = h
+units_sane g (suc n) m h = units_sane g n (unit_of g m.state.work m) (unit_sane g m h)

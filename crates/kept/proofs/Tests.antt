@@ -7,8 +7,8 @@ use lib.Dec.{T, eqb, eqb→eq, not_T}
 use Rattle.part.proofs.Choice.{and_l, and_r, and_in}
 
 -- a number is not 0, as a test and in words
-pub some-T : (n : ℕ) → T (not (eqb n 0)) ↔ 1 ≤ n
-some-T n = (in_words n, λ h. not_T (eqb n 0) (λ t. omega (arith, eqb→eq n 0 t)))
+pub some_T : (n : ℕ) → T (not (eqb n 0)) ↔ 1 ≤ n
+some_T n = (in_words n, λ h. not_T (eqb n 0) (λ t. omega (arith, eqb→eq n 0 t)))
   where
     in_words : (n : ℕ) → T (not (eqb n 0)) → 1 ≤ n
     in_words zero t = absurd t

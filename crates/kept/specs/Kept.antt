@@ -7,15 +7,15 @@ use Rattle.buslog.specs.declared.Record.TheVariants.{Select, Shift, Deselect, Un
 use Rattle.array.specs.Jobs.{Fits}
 use Rattle.device.specs.Machine.{Machine}
 use Rattle.device.specs.Work.{Array, unitwise}
-use Rattle.device.specs.Step.{powered, powerUp, step, run}
-use Rattle.device.specs.Sound.{SoundState, soundState}
+use Rattle.device.specs.Step.{powered, power_up, step, run}
+use Rattle.device.specs.Sound.{SoundState, sound_state}
 use Rattle.device.specs.declared.State.{State}
 
 -- the state is sound, and cells, cache register and page counts have the part's lengths
 pub record SoundMachine (g : Geometry) (m : Machine) : Type 0 where
   pub state : SoundState g m.state
   pub fits : Fits g m.store
-  pub counts-long : length m.counts ≡ rows g
+  pub counts_long : length m.counts ≡ rows g
 
 -- the byte of a shift is a byte
 abbrev pub ByteIn : Record → Type 0
@@ -32,15 +32,15 @@ BytesIn (e ∷ es) = ByteIn e × BytesIn es
 
 -- the test of a sound state says exactly what document 01 lists
 abbrev pub SoundExactly : Type 0
-SoundExactly = (g : Geometry) (s : State) → T (soundState g s) ↔ SoundState g s
+SoundExactly = (g : Geometry) (s : State) → T (sound_state g s) ↔ SoundState g s
 
 -- the power-up state is what power lost and back leaves, with WP# high
 abbrev pub PowerUpIs : Type 0
-PowerUpIs = (g : Geometry) (m : Machine) → m.state.bus.pins.wp ≡ true → (powered g (unitwise g) m).state ≡ powerUp
+PowerUpIs = (g : Geometry) (m : Machine) → m.state.bus.pins.wp ≡ true → (powered g (unitwise g) m).state ≡ power_up
 
 -- the power-up state is sound
 abbrev pub PowerUpSound : Type 0
-PowerUpSound = (g : Geometry) → Sound g → SoundState g powerUp
+PowerUpSound = (g : Geometry) → Sound g → SoundState g power_up
 
 -- an array over which every step keeps soundness and lengths
 abbrev pub Keeps : Geometry → Array → Type 0

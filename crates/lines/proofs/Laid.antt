@@ -10,7 +10,7 @@ use lib.ListN.{length, take, drop, length-append, length-drop}
 use lib.Seq.{take_at, drop_at, drop-drop, length-take-le}
 use borrow.Author.Tests.{lt-ltb, le-ltb, ltb-false}
 use Rattle.buslog.specs.declared.Record.{Record}
-use Rattle.lines.specs.Lines.{space, newline, digits, places, decimal, decimalThen, hex, fields_of, line_of, word, end_of, Laid, laid, laid_of}
+use Rattle.lines.specs.Lines.{space, newline, digits, places, decimal, decimal_then, hex, fields_of, line_of, word, end_of, Laid, laid, laid_of}
 use Rattle.lines.proofs.Texts.{length_digits}
 
 -- ---- how long the texts are
@@ -20,28 +20,28 @@ either : (b : Bool) (x y : ℕ) → x ≤ 5 → y ≤ 5 → cond b x y ≤ 5
 either true x y p q = p
 either false x y p q = q
 
-pub places-most : (n : ℕ) → places n ≤ 5
+pub places_most : (n : ℕ) → places n ≤ 5
 unfolding places
-places-most n =
+places_most n =
     either (ltb n 10) 1 _ (lit≤ tt) (either (ltb n 100) 2 _ (lit≤ tt) (either (ltb n 1000) 3 _ (lit≤ tt) (either (ltb n 10000) 4 5 (lit≤ tt) (lit≤ tt))))
 
-pub length-decimal-then : (n last : ℕ) → length (decimalThen n last) ≡ places n + 1
+pub length_decimal_then : (n last : ℕ) → length (decimal_then n last) ≡ places n + 1
 unfolding decimal
-length-decimal-then n last = rw (length-append (digits (places n) n) (last ∷ []), length_digits (places n) n)
+length_decimal_then n last = rw (length-append (digits (places n) n) (last ∷ []), length_digits (places n) n)
 
 pub length_fields : (e : Record) (o : Option ℕ) (status : ℕ) → length (fields_of e o status) ≡ 8
 unfolding fields_of hex
 length_fields e none status = refl
 length_fields e (some d) status = refl
 
-pub length-line : (number : ℕ) (e : Record) (o : Option ℕ) (status : ℕ) → length (line_of number e o status) ≡ places number + 1 + 8
+pub length_line : (number : ℕ) (e : Record) (o : Option ℕ) (status : ℕ) → length (line_of number e o status) ≡ places number + 1 + 8
 unfolding line_of
-length-line number e o status = rw (length-append (decimalThen number space) (fields_of e o status), length-decimal-then number space, length_fields e o status)
+length_line number e o status = rw (length-append (decimal_then number space) (fields_of e o status), length_decimal_then number space, length_fields e o status)
 
-pub length-end : (refusal records : ℕ) → length (end_of refusal records) ≡ 4 + places refusal + 1 + places records + 1
+pub length_end : (refusal records : ℕ) → length (end_of refusal records) ≡ 4 + places refusal + 1 + places records + 1
 unfolding end_of
-length-end refusal records =
-    rw (length-append (word ++ decimalThen refusal space) (decimalThen records newline), length-append word (decimalThen refusal space), length-decimal-then refusal space, length-decimal-then records newline) (omega arith)
+length_end refusal records =
+    rw (length-append (word ++ decimal_then refusal space) (decimal_then records newline), length-append word (decimal_then refusal space), length_decimal_then refusal space, length_decimal_then records newline) (omega arith)
 
 -- ---- stretches
 
@@ -53,11 +53,11 @@ lay a b l m k n p q e =
     rw (e, take_at a (drop k l) k (sym p), drop_at a (drop k l) k (sym p), drop-drop (n - k) k l, t) (sym (append_assoc a b (drop n l)))
 
 -- the memory keeps its length
-laid-long : (a l m : List ℕ) (k : ℕ) → length a ≡ k → k ≤ length l → m ≡ a ++ drop k l → length m ≡ length l
-laid-long a l m k p h e = rw (e, length-append a (drop k l), length-drop k l) (omega arith)
+laid_long : (a l m : List ℕ) (k : ℕ) → length a ≡ k → k ≤ length l → m ≡ a ++ drop k l → length m ≡ length l
+laid_long a l m k p h e = rw (e, length-append a (drop k l), length-drop k l) (omega arith)
 
 -- a number stored in a stretch of just its length
-stored : (l x : List ℕ) (j k n last : ℕ) → k ≡ j + places n + 1 → k ≤ length l → x ≡ digits (length (take (k - j) (drop j l)) - 1) n ++ (last ∷ []) → x ≡ decimalThen n last
+stored : (l x : List ℕ) (j k n last : ℕ) → k ≡ j + places n + 1 → k ≤ length l → x ≡ digits (length (take (k - j) (drop j l)) - 1) n ++ (last ∷ []) → x ≡ decimal_then n last
 unfolding decimal
 stored l x j k n last p h e =
     let s : length (drop j l) ≡ length l - j = length-drop j l in
@@ -81,14 +81,14 @@ module _ (l x y : List ℕ) (p number : ℕ) (e : Record) (o : Option ℕ) (stat
   abbrev numbered : List ℕ
   numbered = take 0 l ++ (x ++ drop (p + 1 - 0) (drop 0 l))
 
-  pub line-laid : p ≡ places number → p + 1 + 8 ≤ length l → x ≡ digits (length (take (p + 1 - 0) (drop 0 l)) - 1) number ++ (space ∷ []) → y ≡ fields_of e o status
+  pub line_laid : p ≡ places number → p + 1 + 8 ≤ length l → x ≡ digits (length (take (p + 1 - 0) (drop 0 l)) - 1) number ++ (space ∷ []) → y ≡ fields_of e o status
       → laid (p + 1 + 8) (take (p + 1) numbered ++ (y ++ drop (p + 1 + 8 - (p + 1)) (drop (p + 1) numbered))) ≡ laid_of (line_of number e o status) l
   unfolding line_of
-  line-laid q h a b =
-      let a' : x ≡ decimalThen number space = stored l x 0 (p + 1) number space (omega arith) (omega arith) a in
-      let long : length (line_of number e o status) ≡ p + 1 + 8 = length-line number e o status ∙ rw q in
-      let m : numbered ≡ decimalThen number space ++ drop (p + 1) l = rw a' (lay [] (decimalThen number space) l l 0 (p + 1) refl (omega (arith, length-decimal-then number space)) refl) in
-      rw b (ap (laid (p + 1 + 8)) (lay (decimalThen number space) (fields_of e o status) l numbered (p + 1) (p + 1 + 8) (omega (arith, length-decimal-then number space)) (sym long) m)
+  line_laid q h a b =
+      let a' : x ≡ decimal_then number space = stored l x 0 (p + 1) number space (omega arith) (omega arith) a in
+      let long : length (line_of number e o status) ≡ p + 1 + 8 = length_line number e o status ∙ rw q in
+      let m : numbered ≡ decimal_then number space ++ drop (p + 1) l = rw a' (lay [] (decimal_then number space) l l 0 (p + 1) refl (omega (arith, length_decimal_then number space)) refl) in
+      rw b (ap (laid (p + 1 + 8)) (lay (decimal_then number space) (fields_of e o status) l numbered (p + 1) (p + 1 + 8) (omega (arith, length_decimal_then number space)) (sym long) m)
       ∙ fits (line_of number e o status) l (p + 1 + 8) long h)
 
 module _ (l w x y : List ℕ) (p q refusal records : ℕ) where
@@ -99,28 +99,28 @@ module _ (l w x y : List ℕ) (p q refusal records : ℕ) where
   abbrev refused : List ℕ
   refused = take 4 worded ++ (x ++ drop (4 + p + 1 - 4) (drop 4 worded))
 
-  pub end-laid : p ≡ places refusal → q ≡ places records → 4 + p + 1 + q + 1 ≤ length l → w ≡ word
+  pub end_laid : p ≡ places refusal → q ≡ places records → 4 + p + 1 + q + 1 ≤ length l → w ≡ word
       → x ≡ digits (length (take (4 + p + 1 - 4) (drop 4 worded)) - 1) refusal ++ (space ∷ [])
       → y ≡ digits (length (take (4 + p + 1 + q + 1 - (4 + p + 1)) (drop (4 + p + 1) refused)) - 1) records ++ (newline ∷ [])
       → laid (4 + p + 1 + q + 1) (take (4 + p + 1) refused ++ (y ++ drop (4 + p + 1 + q + 1 - (4 + p + 1)) (drop (4 + p + 1) refused))) ≡ laid_of (end_of refusal records) l
   unfolding end_of
-  end-laid r s h z a b =
-      let front : List ℕ = word ++ decimalThen refusal space in
+  end_laid r s h z a b =
+      let front : List ℕ = word ++ decimal_then refusal space in
       let w' : worded ≡ word ++ drop 4 l = rw z in
-      let w-long : length worded ≡ length l = laid-long word l worded 4 refl (omega arith) w' in
-      let a' : x ≡ decimalThen refusal space = stored worded x 4 (4 + p + 1) refusal space (omega arith) (omega arith) a in
-      let k-long : length (word ++ decimalThen refusal space) ≡ 4 + p + 1 = rw (length-append word (decimalThen refusal space), length-decimal-then refusal space) (omega arith) in
-      let m : refused ≡ (word ++ decimalThen refusal space) ++ drop (4 + p + 1) l = rw a' (lay word (decimalThen refusal space) l worded 4 (4 + p + 1) refl (sym k-long) w') in
-      let m-long : length refused ≡ length l = laid-long front l refused (4 + p + 1) k-long (omega arith) m in
-      let b' : y ≡ decimalThen records newline = stored refused y (4 + p + 1) (4 + p + 1 + q + 1) records newline (omega arith) (omega arith) b in
-      let long : length (end_of refusal records) ≡ 4 + p + 1 + q + 1 = length-end refusal records ∙ rw (r, s) in
-      rw b' (ap (laid (4 + p + 1 + q + 1)) (lay front (decimalThen records newline) l refused (4 + p + 1) (4 + p + 1 + q + 1) (sym k-long) (sym long) m)
+      let w-long : length worded ≡ length l = laid_long word l worded 4 refl (omega arith) w' in
+      let a' : x ≡ decimal_then refusal space = stored worded x 4 (4 + p + 1) refusal space (omega arith) (omega arith) a in
+      let k-long : length (word ++ decimal_then refusal space) ≡ 4 + p + 1 = rw (length-append word (decimal_then refusal space), length_decimal_then refusal space) (omega arith) in
+      let m : refused ≡ (word ++ decimal_then refusal space) ++ drop (4 + p + 1) l = rw a' (lay word (decimal_then refusal space) l worded 4 (4 + p + 1) refl (sym k-long) w') in
+      let m-long : length refused ≡ length l = laid_long front l refused (4 + p + 1) k-long (omega arith) m in
+      let b' : y ≡ decimal_then records newline = stored refused y (4 + p + 1) (4 + p + 1 + q + 1) records newline (omega arith) (omega arith) b in
+      let long : length (end_of refusal records) ≡ 4 + p + 1 + q + 1 = length_end refusal records ∙ rw (r, s) in
+      rw b' (ap (laid (4 + p + 1 + q + 1)) (lay front (decimal_then records newline) l refused (4 + p + 1) (4 + p + 1 + q + 1) (sym k-long) (sym long) m)
       ∙ fits (end_of refusal records) l (4 + p + 1 + q + 1) long h)
 
 -- the length that is answered lies within the memory
-pub laid-within : (text l m : List ℕ) (n : ℕ) → laid n m ≡ laid_of text l → n ≤ length l
+pub laid_within : (text l m : List ℕ) (n : ℕ) → laid n m ≡ laid_of text l → n ≤ length l
 unfolding laid_of
-laid-within text l m n e = go (ltb (length l) (length text)) refl e
+laid_within text l m n e = go (ltb (length l) (length text)) refl e
   where
     go : (b : Bool) → ltb (length l) (length text) ≡ b → laid n m ≡ cond b (laid 0 l) (laid (length text) (text ++ drop (length text) l)) → n ≤ length l
     go true t p = omega (arith, ap (λ (w : Laid). w.count) p)

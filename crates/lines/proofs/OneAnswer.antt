@@ -9,8 +9,8 @@ use Rattle.lines.proofs.record_line.Kinds as record-line-kinds
 use Rattle.lines.proofs.end_line.Reads as end-line-reads
 use Rattle.lines.proofs.end_line.Kinds as end-line-kinds
 
-pub record-line-one : OneEnd 1 record-line-kinds.ps record-line-kinds.r (List ℕ) (λ κs s. s.1.1.1.1.0.now) record-line-reads.Post
-record-line-one κs a x y s t p q = (ap (λ (w : Laid). w.count) (p ∙ sym q), ap (λ (w : Laid). w.out) (p ∙ sym q))
+pub record_line_one : OneEnd 1 record-line-kinds.ps record-line-kinds.r (List ℕ) (λ κs s. s.1.1.1.1.0.now) record-line-reads.Post
+record_line_one κs a x y s t p q = (ap (λ (w : Laid). w.count) (p ∙ sym q), ap (λ (w : Laid). w.out) (p ∙ sym q))
 
-pub end-line-one : OneEnd 1 end-line-kinds.ps end-line-kinds.r (List ℕ) (λ κs s. s.1.1.0.now) end-line-reads.Post
-end-line-one κs a x y s t p q = (ap (λ (w : Laid). w.count) (p ∙ sym q), ap (λ (w : Laid). w.out) (p ∙ sym q))
+pub end_line_one : OneEnd 1 end-line-kinds.ps end-line-kinds.r (List ℕ) (λ κs s. s.1.1.0.now) end-line-reads.Post
+end_line_one κs a x y s t p q = (ap (λ (w : Laid). w.count) (p ∙ sym q), ap (λ (w : Laid). w.out) (p ∙ sym q))

@@ -37,51 +37,51 @@ unfoldable pub decimal : ℕ → List ℕ
 decimal n = digits (places n) n
 
 -- the same, then one character
-abbrev pub decimalThen : ℕ → ℕ → List ℕ
-decimalThen n last = decimal n ++ (last ∷ [])
+abbrev pub decimal_then : ℕ → ℕ → List ℕ
+decimal_then n last = decimal n ++ (last ∷ [])
 
 -- ---- bytes in hex
 
 -- a hex digit: 0 to 9, then the capitals A to F
-unfoldable pub hexDigit : ℕ → ℕ
-hexDigit d = if ltb d 10 then digit d else 0x37 + d
+unfoldable pub hex_digit : ℕ → ℕ
+hex_digit d = if ltb d 10 then digit d else 0x37 + d
 
 -- a byte in two hex capitals, the high digit first
 unfoldable pub hex : ℕ → List ℕ
-hex b = hexDigit (b / 16) ∷ hexDigit (b % 16) ∷ []
+hex b = hex_digit (b / 16) ∷ hex_digit (b % 16) ∷ []
 
 -- ---- the lines
 
 -- the letter S, B, D, W, L or P for kinds 01h to 06h
-abbrev pub letterOf : Record → ℕ
-letterOf Select = 0x53
-letterOf (Shift b) = 0x42
-letterOf Deselect = 0x44
-letterOf (Units n) = 0x57
-letterOf (Level v) = 0x4C
-letterOf Power = 0x50
+abbrev pub letter_of : Record → ℕ
+letter_of Select = 0x53
+letter_of (Shift b) = 0x42
+letter_of Deselect = 0x44
+letter_of (Units n) = 0x57
+letter_of (Level v) = 0x4C
+letter_of Power = 0x50
 
 -- the byte on DO, that only a shift has
-abbrev pub doOf : Record → ℕ → Option ℕ
-doOf Select d = none
-doOf (Shift b) d = some d
-doOf Deselect d = none
-doOf (Units n) d = none
-doOf (Level v) d = none
-doOf Power d = none
+abbrev pub do_of : Record → ℕ → Option ℕ
+do_of Select d = none
+do_of (Shift b) d = some d
+do_of Deselect d = none
+do_of (Units n) d = none
+do_of (Level v) d = none
+do_of Power d = none
 
 -- DO in two hex capitals, or -- for other kinds
-abbrev pub doText : Option ℕ → List ℕ
-doText none = 0x2D ∷ 0x2D ∷ []
-doText (some d) = hex d
+abbrev pub do_text : Option ℕ → List ℕ
+do_text none = 0x2D ∷ 0x2D ∷ []
+do_text (some d) = hex d
 
 -- what stands behind the number: the letter, DO and the status register, and the newline
 unfoldable pub fields_of : Record → Option ℕ → ℕ → List ℕ
-fields_of e d status = letterOf e ∷ space ∷ (doText d ++ (space ∷ (hex status ++ (newline ∷ []))))
+fields_of e d status = letter_of e ∷ space ∷ (do_text d ++ (space ∷ (hex status ++ (newline ∷ []))))
 
 -- the line of a record: its number, a space, and the fields
 unfoldable pub line_of : ℕ → Record → Option ℕ → ℕ → List ℕ
-line_of number e d status = decimalThen number space ++ fields_of e d status
+line_of number e d status = decimal_then number space ++ fields_of e d status
 
 -- `end` and a space
 abbrev pub word : List ℕ
@@ -89,7 +89,7 @@ word = 0x65 ∷ 0x6E ∷ 0x64 ∷ space ∷ []
 
 -- the last line: `end`, the refusal number, the records done
 unfoldable pub end_of : ℕ → ℕ → List ℕ
-end_of refusal records = word ++ decimalThen refusal space ++ decimalThen records newline
+end_of refusal records = word ++ decimal_then refusal space ++ decimal_then records newline
 
 -- ---- a line in lent memory
 

@@ -1,6 +1,6 @@
 // The lines of the replay program, each written at the front of lent memory. Document 01, "The replay program".
 ghost use Rattle.std.specs.Prelude.{[], ◌∷◌, ◌++◌, ◌≡◌, ◌-◌, ◌<◌, length};
-ghost use Rattle.lines.specs.Lines.{digits, places, hexDigit, hex, letterOf, doOf, doText, fields_of, line_of, word, end_of, laid, laid_of};
+ghost use Rattle.lines.specs.Lines.{digits, places, hex_digit, hex, letter_of, do_of, do_text, fields_of, line_of, word, end_of, laid, laid_of};
 
 use buslog::Record;
 
@@ -10,7 +10,7 @@ struct Pair(u8, u8);
 
 // The letter of a record's kind.
 fn letter(e: Record) -> u8
-    ensures { result ≡ letterOf e }
+    ensures { result ≡ letter_of e }
 {
     match e {
         Record::Select => b'S',
@@ -25,7 +25,7 @@ fn letter(e: Record) -> u8
 // A hex digit, a capital.
 fn hex_digit(d: u8) -> u8
     requires { d < 16 }
-    ensures { result ≡ hexDigit d }
+    ensures { result ≡ hex_digit d }
 {
     if d < 10 {
         return b'0' + d;
@@ -42,7 +42,7 @@ fn hex_pair(b: u8) -> Pair
 
 // The byte on DO, which only a shift has.
 fn do_pair(e: Record, d: u8) -> Pair
-    ensures { result.0 ∷ result.1 ∷ [] ≡ doText (doOf e d) }
+    ensures { result.0 ∷ result.1 ∷ [] ≡ do_text (do_of e d) }
 {
     match e {
         Record::Select => Pair(b'-', b'-'),
@@ -98,7 +98,7 @@ fn low(d: u16) -> u8
 // What stands behind the number, in a stretch that is just as long.
 fn store_fields(e: Record, d: u8, status: u8, out: &mut [u8])
     requires { length out.old ≡ 8 }
-    ensures { out.new ≡ fields_of e (doOf e d) status }
+    ensures { out.new ≡ fields_of e (do_of e d) status }
 {
     let t = do_pair(e, d);
     let s = hex_pair(status);
@@ -114,7 +114,7 @@ fn store_fields(e: Record, d: u8, status: u8, out: &mut [u8])
 
 // The line of a record and its length, or 0 and not a byte where the room is too short.
 pub fn record_line(number: u16, e: Record, d: u8, status: u8, out: &mut [u8]) -> usize
-    ensures { laid result out.new ≡ laid_of (line_of number e (doOf e d) status) out.old }
+    ensures { laid result out.new ≡ laid_of (line_of number e (do_of e d) status) out.old }
 {
     let k = places_of(number) + 1;
     let n = k + 8;

@@ -9,7 +9,7 @@ use Rattle.buslog.specs.declared.Record.{Record}
 use Rattle.device.specs.Machine.{Machine}
 use Rattle.device.specs.Work.{Array}
 use Rattle.device.specs.Step.{step, run}
-use Rattle.refusals.specs.Refusals.{refusalOf, passed, checkedAs}
+use Rattle.refusals.specs.Refusals.{refusal_of, passed, checked_as}
 use Rattle.refusals.specs.declared.Refusal.{Refusal}
 use Rattle.refusals.specs.declared.Refusal.TheVariants.{NoRoom}
 use Rattle.walk.specs.Turns.{takes, puts}
@@ -18,9 +18,9 @@ use Rattle.walk.specs.declared.Answer.{Answer}
 -- ---- the output: one byte a shift, in order
 
 -- the shifts among records
-unfoldable pub shiftsIn : List Record → ℕ
-shiftsIn [] = 0
-shiftsIn (e ∷ es) = takes e + shiftsIn es
+unfoldable pub shifts_in : List Record → ℕ
+shifts_in [] = 0
+shifts_in (e ∷ es) = takes e + shifts_in es
 
 -- the records before the first that finds no room
 unfoldable pub fitting : ℕ → List Record → List Record
@@ -28,9 +28,9 @@ fitting room [] = []
 fitting room (e ∷ es) = if ltb room (takes e) then [] else e ∷ fitting (room - takes e) es
 
 -- the bytes that records put out, one after another
-unfoldable pub bytesOut : Geometry → Array → Machine → List Record → List ℕ
-bytesOut g arr m [] = []
-bytesOut g arr m (e ∷ es) = puts g m e ++ bytesOut g arr (step g arr m e) es
+unfoldable pub bytes_out : Geometry → Array → Machine → List Record → List ℕ
+bytes_out g arr m [] = []
+bytes_out g arr m (e ∷ es) = puts g m e ++ bytes_out g arr (step g arr m e) es
 
 -- ---- the run
 
@@ -44,15 +44,15 @@ pub record Outcome : Type 0 where
 -- exactly the records es done, and stopped with a refusal: the machine after them, their number, their bytes in the log, what they put out.
 -- "Nothing done" is this for no records; "stops before it" is this for the records before it.
 abbrev pub did : Geometry → Array → Machine → Refusal → List Record → Outcome
-did g arr m why es = record { refusal = why; machine = run g arr m es; records = length es; used = length (written es); output = bytesOut g arr m es }
+did g arr m why es = record { refusal = why; machine = run g arr m es; records = length es; used = length (written es); output = bytes_out g arr m es }
 
 -- the records of a log that was read, as far as the room goes
-unfoldable pub ranOf : Geometry → Array → ℕ → Parsed → Machine → Outcome
-ranOf g arr room p m = did g arr m (if ltb room (shiftsIn p.records) then NoRoom else refusalOf p.why) (fitting room p.records)
+unfoldable pub ran_of : Geometry → Array → ℕ → Parsed → Machine → Outcome
+ran_of g arr room p m = did g arr m (if ltb room (shifts_in p.records) then NoRoom else refusal_of p.why) (fitting room p.records)
 
 -- the checks, and then the log
 unfoldable pub run_of : Geometry → Array → ℕ → List ℕ → Machine → Outcome
-run_of g arr room log m = if passed (checkedAs g m) then ranOf g arr room (parse log) m else did g arr m (checkedAs g m) []
+run_of g arr room log m = if passed (checked_as g m) then ran_of g arr room (parse log) m else did g arr m (checked_as g m) []
 
 -- one run, and another behind it
 abbrev pub and_then : Outcome → Outcome → Outcome

@@ -6,7 +6,7 @@ ghost use Rattle.buslog.specs.Read.{parse};
 ghost use Rattle.device.specs.Machine.{machine};
 ghost use Rattle.device.specs.Work.{unitwise};
 ghost use Rattle.kept.specs.Kept.{SoundMachine};
-ghost use Rattle.model.specs.Runs.{ranOf, run_of, seen, shown};
+ghost use Rattle.model.specs.Runs.{ran_of, run_of, seen, shown};
 
 use buslog::Record;
 use device::State;
@@ -26,7 +26,7 @@ fn go(
 ) -> Answer
     requires { (Sound g) × (SoundMachine g (machine state cells.old cache.old counts.old)) }
     ensures { seen result cells.new cache.new counts.new out.new
-        ≡ shown (ranOf g (unitwise g) (length out.old) (parse log.now) (machine state cells.old cache.old counts.old)) out.old }
+        ≡ shown (ran_of g (unitwise g) (length out.old) (parse log.now) (machine state cells.old cache.old counts.old)) out.old }
 {
     let mut w = Walk::start(state);
     loop {

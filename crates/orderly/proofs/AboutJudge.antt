@@ -4,10 +4,10 @@ use mathlib.Core.Path.{◌≡◌, ap, sym, ◌∙◌}
 use borrow.Fn.Kinds.{Dens, res_t, ended_of}
 use contract.Lifetimes.{Lfts}
 use denote.Triple.Clauses.{AtExit}
-use Rattle.part.proofs.Choice.{true-T}
+use Rattle.part.proofs.Choice.{true_T}
 use Rattle.model.specs.Runs.{End, seen}
 use Rattle.whole.specs.Demand.{Given, given, end_of, supposed}
-use Rattle.whole.proofs.Demand3.{demand-3}
+use Rattle.whole.proofs.Demand3.{demand_3}
 use Rattle.orderly.specs.Judge.{Judgement, AboutJudge}
 use Rattle.orderly.proofs.judge.Reads as judge-reads
 use Rattle.orderly.proofs.judge.Kinds as judge-kinds
@@ -21,8 +21,8 @@ module _ (κs : Lfts 5) (a : Dens κs judge-kinds.ps) (x : (res_t judge-kinds.r 
   abbrev returned : End
   returned = seen x.answer s.1.1.1.0.now s.1.1.1.1.0.now s.1.1.1.1.1.0.now s.1.1.1.1.1.1.0.now
 
-  pub about-judge : AboutJudge (judge-reads.Post κs a x s) handed returned x.orderly
-  about-judge p h e =
+  pub about_judge : AboutJudge (judge-reads.Post κs a x s) handed returned x.orderly
+  about_judge p h e =
       let r : returned ≡ end_of handed = ap (λ (j : Judgement). j.end) p in
       let t : supposed handed (end_of handed) ≡ true = sym (ap (λ (j : Judgement). j.orderly) p) ∙ e in
-      demand-3 handed h returned r (rw r (true-T (supposed handed (end_of handed)) t))
+      demand_3 handed h returned r (rw r (true_T (supposed handed (end_of handed)) t))

@@ -8,8 +8,8 @@ use Rattle.orderly.specs.Judge.{Judgement}
 use Rattle.orderly.proofs.judge.Reads as judge-reads
 use Rattle.orderly.proofs.judge.Kinds as judge-kinds
 
-abbrev judgedOf : Judgement → Judged
-judgedOf j = record { answer = j.end.answer; orderly = j.orderly }
+abbrev judged_of : Judgement → Judged
+judged_of j = record { answer = j.end.answer; orderly = j.orderly }
 
-pub judge-one : OneEnd 5 judge-kinds.ps judge-kinds.r Lent (λ κs s. lent s.1.1.1.0.now s.1.1.1.1.0.now s.1.1.1.1.1.0.now s.1.1.1.1.1.1.0.now) judge-reads.Post
-judge-one κs a x y s t p q = (ap judgedOf (p ∙ sym q), ap (λ (j : Judgement). lent_of j.end) (p ∙ sym q))
+pub judge_one : OneEnd 5 judge-kinds.ps judge-kinds.r Lent (λ κs s. lent s.1.1.1.0.now s.1.1.1.1.0.now s.1.1.1.1.1.0.now s.1.1.1.1.1.1.0.now) judge-reads.Post
+judge_one κs a x y s t p q = (ap judged_of (p ∙ sym q), ap (λ (j : Judgement). lent_of j.end) (p ∙ sym q))

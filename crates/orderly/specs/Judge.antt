@@ -20,8 +20,8 @@ abbrev pub judged : Judged → List ℕ → List ℕ → List ℕ → List ℕ �
 judged r cells cache counts out = record { end = seen r.answer cells cache counts out; orderly = r.orderly }
 
 -- the judgement that demand 3 asks for: the end is that of `run`, and the test is that of the suppositions on it
-abbrev pub judgementOf : Given → Judgement
-judgementOf i = record { end = end_of i; orderly = supposed i (end_of i) }
+abbrev pub judgement_of : Given → Judgement
+judgement_of i = record { end = end_of i; orderly = supposed i (end_of i) }
 
 -- an answer judged: it must be idle as well
 abbrev pub closed : Answer → Bool → Judged

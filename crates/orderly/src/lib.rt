@@ -4,7 +4,7 @@ ghost use Rattle.part.specs.Part.{Sound};
 ghost use Rattle.device.specs.Machine.{machine};
 ghost use Rattle.kept.specs.Kept.{SoundMachine};
 ghost use Rattle.whole.specs.Demand.{given};
-ghost use Rattle.orderly.specs.Judge.{judged, judgementOf, closed, welcome};
+ghost use Rattle.orderly.specs.Judge.{judged, judgement_of, closed, welcome};
 
 use buslog::Next;
 use device::State;
@@ -52,7 +52,7 @@ fn go(
 ) -> Judged
     requires { (Sound g) × (SoundMachine g (machine state cells.old cache.old counts.old)) }
     ensures { judged result cells.new cache.new counts.new out.new
-        ≡ judgementOf (given g state log.now cells.old cache.old counts.old out.old) }
+        ≡ judgement_of (given g state log.now cells.old cache.old counts.old out.old) }
 {
     let mut w = Walk::start(state);
     let mut ok = suppositions::starts(state);
@@ -82,7 +82,7 @@ pub fn judge(
     out: &mut [u8],
 ) -> Judged
     ensures { judged result cells.new cache.new counts.new out.new
-        ≡ judgementOf (given g state log.now cells.old cache.old counts.old out.old) }
+        ≡ judgement_of (given g state log.now cells.old cache.old counts.old out.old) }
 {
     let k = refusals::check(g, state, cells.len(), cache.len(), counts.len());
     if !refusals::passes(k) {

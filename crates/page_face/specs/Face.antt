@@ -1,6 +1,6 @@
 -- The answers of the maker and of the reader in numbers.
 use Rattle.std.specs.Prelude.{List, ℕ}
-use Rattle.sheet.specs.Page.{MadeEnd, madeNumber}
+use Rattle.sheet.specs.Page.{MadeEnd, made_number}
 use Rattle.copies.specs.Copies.{Figures}
 use Rattle.page_face.specs.declared.CSizes.{CSizes}
 
@@ -10,13 +10,13 @@ pub record CMade : Type 0 where
   pub memory : List ℕ
 
 -- the two together
-abbrev pub faceMade : ℕ → List ℕ → CMade
-faceMade refusal memory = record { refusal = refusal; memory = memory }
+abbrev pub face_made : ℕ → List ℕ → CMade
+face_made refusal memory = record { refusal = refusal; memory = memory }
 
 -- what the maker answers, its refusal by number
 abbrev pub numbered : MadeEnd → CMade
-numbered e = faceMade (madeNumber e.made) e.memory
+numbered e = face_made (made_number e.made) e.memory
 
 -- what the reader answers
-abbrev pub faceSizes : Figures → CSizes
-faceSizes t = record { main = t.sizes.main; pages = t.sizes.pages; blocks = t.sizes.blocks; spare = t.sizes.spare; copy = t.copy; refusal = t.refusal }
+abbrev pub face_sizes : Figures → CSizes
+face_sizes t = record { main = t.sizes.main; pages = t.sizes.pages; blocks = t.sizes.blocks; spare = t.sizes.spare; copy = t.copy; refusal = t.refusal }

@@ -1,10 +1,10 @@
 // The parameter page in C: the functions of include/sleetanvil.h, "the parameter page". Plain numbers outside; every content is answered.
 ghost use Rattle.std.specs.Prelude.{◌≡◌};
 ghost use Rattle.part_numbers.specs.Numbers.{part_of};
-ghost use Rattle.crc.specs.Crc.{crcOf};
-ghost use Rattle.sheet.specs.Page.{makeOf};
+ghost use Rattle.crc.specs.Crc.{crc_of};
+ghost use Rattle.sheet.specs.Page.{make_of};
 ghost use Rattle.copies.specs.Copies.{figures, read_of};
-ghost use Rattle.page_face.specs.Face.{faceMade, numbered, faceSizes};
+ghost use Rattle.page_face.specs.Face.{face_made, numbered, face_sizes};
 
 use copies::Found;
 use part_numbers::CGeometry;
@@ -37,7 +37,7 @@ fn refused(refusal: u8) -> CSizes
 
 // The numbers of an answer.
 fn sizes_of(found: Found) -> CSizes
-    ensures { result ≡ faceSizes (figures found) }
+    ensures { result ≡ face_sizes (figures found) }
 {
     match found {
         Found::At(copy, s) => CSizes {
@@ -56,7 +56,7 @@ fn sizes_of(found: Found) -> CSizes
 // A part's page at the front of lent memory.
 #[unsafe(no_mangle)]
 pub extern "C" fn sleet_page_make(part: CGeometry, memory: &mut [u8]) -> u8
-    ensures { faceMade result memory.new ≡ numbered (makeOf (part_of part) memory.old) }
+    ensures { face_made result memory.new ≡ numbered (make_of (part_of part) memory.old) }
 {
     let g = part_numbers::part_of(part);
     let made = sheet::make(g, memory);
@@ -66,7 +66,7 @@ pub extern "C" fn sleet_page_make(part: CGeometry, memory: &mut [u8]) -> u8
 // The first of the three copies that holds.
 #[unsafe(no_mangle)]
 pub extern "C" fn sleet_page_read(memory: &[u8]) -> CSizes
-    ensures { result ≡ faceSizes (figures (read_of memory.now)) }
+    ensures { result ≡ face_sizes (figures (read_of memory.now)) }
 {
     sizes_of(copies::read(memory))
 }
@@ -74,7 +74,7 @@ pub extern "C" fn sleet_page_read(memory: &[u8]) -> CSizes
 // The check of a stretch of bytes.
 #[unsafe(no_mangle)]
 pub extern "C" fn sleet_page_check(bytes: &[u8]) -> u16
-    ensures { result ≡ crcOf bytes.now }
+    ensures { result ≡ crc_of bytes.now }
 {
     crc::check_of(bytes)
 }

@@ -12,22 +12,22 @@ module _ {A : Type 0} (b : Bool) (x y : A) where
   cond_no e = subst (λ (b : Bool). cond b x y ≡ y) (sym e) refl
 
 -- what holds of both sides of a choice holds of the choice
-pub cond-keep : {A : Type 0} (P : A → Type 0) (b : Bool) {x y : A} → (b ≡ true → P x) → (b ≡ false → P y) → P (cond b x y)
-cond-keep P true p q = p refl
-cond-keep P false p q = q refl
+pub cond_keep : {A : Type 0} (P : A → Type 0) (b : Bool) {x y : A} → (b ≡ true → P x) → (b ≡ false → P y) → P (cond b x y)
+cond_keep P true p q = p refl
+cond_keep P false p q = q refl
 
 -- two choices on one test, compared
-pub cond-two : {A B : Type 0} (P : A → B → Type 0) (b : Bool) {x y : A} {x' y' : B} → (b ≡ true → P x x') → (b ≡ false → P y y') → P (cond b x y) (cond b x' y')
-cond-two P true p q = p refl
-cond-two P false p q = q refl
+pub cond_two : {A B : Type 0} (P : A → B → Type 0) (b : Bool) {x y : A} {x' y' : B} → (b ≡ true → P x x') → (b ≡ false → P y y') → P (cond b x y) (cond b x' y')
+cond_two P true p q = p refl
+cond_two P false p q = q refl
 
 -- a test that holds is true
 pub T_true : (b : Bool) → T b → b ≡ true
 T_true true t = refl
 T_true false t = absurd t
 
-pub true-T : (b : Bool) → b ≡ true → T b
-true-T b e = rw e tt
+pub true_T : (b : Bool) → b ≡ true → T b
+true_T b e = rw e tt
 
 pub and_l : (a b : Bool) → T (a && b) → T a
 and_l true b t = tt

@@ -8,104 +8,104 @@ use native.Mathlib.Omega.{arith}
 use lib.Dec.{T, leb, ltb, eqb, ltb→lt}
 use borrow.Author.Tests.{le-leb, lt-leb, lt-ltb, le-ltb}
 use Rattle.part.specs.Promises.{ComplementExactly, AtTheEndsNothing, FirstKnowsNone, NoneBeyond, SmallAllProtected, NoneAndAll, WithoutCmpAlike}
-use Rattle.part.specs.Protection.{bp, inv, cmp, guarded, picked, complemented, protects, cmpSet, cmpCleared}
+use Rattle.part.specs.Protection.{bp, inv, cmp, guarded, picked, complemented, protects, cmp_set, cmp_cleared}
 use Rattle.part.specs.declared.Geometry.{Geometry}
 use Rattle.part.specs.declared.Stepping.{Stepping}
 use Rattle.part.specs.declared.Stepping.TheVariants.{First, Second}
-use Rattle.part.proofs.Choice.{cond-keep, true-T}
+use Rattle.part.proofs.Choice.{cond_keep, true_T}
 
 -- CMP set or cleared leaves BP and INV
-bp-set : (a0 : ℕ) → bp (cmpSet a0) ≡ bp a0
-bp-set a0 = ap (λ (x : ℕ). x % 8) eighth
+bp_set : (a0 : ℕ) → bp (cmp_set a0) ≡ bp a0
+bp_set a0 = ap (λ (x : ℕ). x % 8) eighth
   where
-    eighth : cmpSet a0 / 8 ≡ a0 / 8
+    eighth : cmp_set a0 / 8 ≡ a0 / 8
     eighth = omega arith
 
-bp-cleared : (a0 : ℕ) → bp (cmpCleared a0) ≡ bp a0
-bp-cleared a0 = ap (λ (x : ℕ). x % 8) eighth
+bp_cleared : (a0 : ℕ) → bp (cmp_cleared a0) ≡ bp a0
+bp_cleared a0 = ap (λ (x : ℕ). x % 8) eighth
   where
-    eighth : cmpCleared a0 / 8 ≡ a0 / 8
+    eighth : cmp_cleared a0 / 8 ≡ a0 / 8
     eighth = omega arith
 
-inv-set : (a0 : ℕ) → cmpSet a0 / 4 % 2 ≡ a0 / 4 % 2
-inv-set a0 = omega arith
+inv_set : (a0 : ℕ) → cmp_set a0 / 4 % 2 ≡ a0 / 4 % 2
+inv_set a0 = omega arith
 
-inv-cleared : (a0 : ℕ) → cmpCleared a0 / 4 % 2 ≡ a0 / 4 % 2
-inv-cleared a0 = omega arith
+inv_cleared : (a0 : ℕ) → cmp_cleared a0 / 4 % 2 ≡ a0 / 4 % 2
+inv_cleared a0 = omega arith
 
-cmp-set : (a0 : ℕ) → cmpSet a0 / 2 % 2 ≡ 1
-cmp-set a0 = omega arith
+cmp_set_lem : (a0 : ℕ) → cmp_set a0 / 2 % 2 ≡ 1
+cmp_set_lem a0 = omega arith
 
-cmp-cleared : (a0 : ℕ) → cmpCleared a0 / 2 % 2 ≡ 0
-cmp-cleared a0 = omega arith
+cmp_cleared_lem : (a0 : ℕ) → cmp_cleared a0 / 2 % 2 ≡ 0
+cmp_cleared_lem a0 = omega arith
 
 -- so the blocks that are picked are the same
-picked_same : (g : Geometry) (a0 k : ℕ) → picked g (cmpSet a0) k ≡ picked g (cmpCleared a0) k
-picked_same g a0 k = rw (bp-set a0, bp-cleared a0, inv-set a0, inv-cleared a0)
+picked_same : (g : Geometry) (a0 k : ℕ) → picked g (cmp_set a0) k ≡ picked g (cmp_cleared a0) k
+picked_same g a0 k = rw (bp_set a0, bp_cleared a0, inv_set a0, inv_cleared a0)
 
 -- without CMP nothing is turned round, on either stepping
-cleared-plain : (st : Stepping) (a0 : ℕ) → complemented st (cmpCleared a0) ≡ false
-cleared-plain First a0 = refl
-cleared-plain Second a0 = rw (cmp-cleared a0)
+cleared_plain : (st : Stepping) (a0 : ℕ) → complemented st (cmp_cleared a0) ≡ false
+cleared_plain First a0 = refl
+cleared_plain Second a0 = rw (cmp_cleared_lem a0)
 
 -- with it, on the second stepping, exactly where b is from 1 to 6
-set-turned : (a0 : ℕ) → 1 ≤ bp a0 → bp a0 ≤ 6 → complemented Second (cmpSet a0) ≡ true
-set-turned a0 lo hi = rw (cmp-set a0, bp-set a0, le-leb 1 (bp a0) lo, le-leb (bp a0) 6 hi)
+set_turned : (a0 : ℕ) → 1 ≤ bp a0 → bp a0 ≤ 6 → complemented Second (cmp_set a0) ≡ true
+set_turned a0 lo hi = rw (cmp_set_lem a0, bp_set a0, le-leb 1 (bp a0) lo, le-leb (bp a0) 6 hi)
 
 -- where b is 0 or 7 nothing is, whatever CMP is
-ends-plain : (st : Stepping) (a0 : ℕ) → (bp a0 ≡ 0) ⊎ (bp a0 ≡ 7) → complemented st a0 ≡ false
-ends-plain First a0 h = refl
-ends-plain Second a0 (inl e) = rw e (go (cmp a0))
+ends_plain : (st : Stepping) (a0 : ℕ) → (bp a0 ≡ 0) ⊎ (bp a0 ≡ 7) → complemented st a0 ≡ false
+ends_plain First a0 h = refl
+ends_plain Second a0 (inl e) = rw e (go (cmp a0))
   where
     go : (b : Bool) → (b && leb 1 0 && leb 0 6) ≡ false
     go true = refl
     go false = refl
-ends-plain Second a0 (inr e) = rw e (go (cmp a0))
+ends_plain Second a0 (inr e) = rw e (go (cmp a0))
   where
     go : (b : Bool) → (b && leb 1 7 && leb 7 6) ≡ false
     go true = refl
     go false = refl
 
 -- a block of the part, once it is known whether the rest is taken
-protects-plain : (g : Geometry) (a0 k : ℕ) → complemented g.stepping a0 ≡ false → protects g a0 k ≡ (ltb k g.blocks && picked g a0 k)
+protects_plain : (g : Geometry) (a0 k : ℕ) → complemented g.stepping a0 ≡ false → protects g a0 k ≡ (ltb k g.blocks && picked g a0 k)
 unfolding protects
-protects-plain g a0 k e = rw e
+protects_plain g a0 k e = rw e
 
-protects-turned : (g : Geometry) (a0 k : ℕ) → complemented g.stepping a0 ≡ true → protects g a0 k ≡ (ltb k g.blocks && not (picked g a0 k))
+protects_turned : (g : Geometry) (a0 k : ℕ) → complemented g.stepping a0 ≡ true → protects g a0 k ≡ (ltb k g.blocks && not (picked g a0 k))
 unfolding protects
-protects-turned g a0 k e = rw e
+protects_turned g a0 k e = rw e
 
 -- a test turned round holds if and only if the test does not
-not-exactly : (b : Bool) → T (not b) ↔ ¬ T b
-not-exactly true = (λ t. absurd t, λ n. n tt)
-not-exactly false = (λ t n. n, λ n. tt)
+not_exactly : (b : Bool) → T (not b) ↔ ¬ T b
+not_exactly true = (λ t. absurd t, λ n. n tt)
+not_exactly false = (λ t n. n, λ n. tt)
 
-pub complement-exactly : ComplementExactly
-complement-exactly g a0 k e lo hi h =
+pub complement_exactly : ComplementExactly
+complement_exactly g a0 k e lo hi h =
     rw (
-      protects-turned g (cmpSet a0) k (rw e (set-turned a0 lo hi)),
-      protects-plain g (cmpCleared a0) k (cleared-plain g.stepping a0),
+      protects_turned g (cmp_set a0) k (rw e (set_turned a0 lo hi)),
+      protects_plain g (cmp_cleared a0) k (cleared_plain g.stepping a0),
       lt-ltb k g.blocks h,
       picked_same g a0 k,
     )
-    (not-exactly (picked g (cmpCleared a0) k))
+    (not_exactly (picked g (cmp_cleared a0) k))
 
 -- where neither value takes the rest, CMP changes nothing
-both-plain : (g : Geometry) (a0 k : ℕ) → complemented g.stepping (cmpSet a0) ≡ false → protects g (cmpSet a0) k ≡ protects g (cmpCleared a0) k
-both-plain g a0 k e =
-    protects-plain g (cmpSet a0) k e
+both_plain : (g : Geometry) (a0 k : ℕ) → complemented g.stepping (cmp_set a0) ≡ false → protects g (cmp_set a0) k ≡ protects g (cmp_cleared a0) k
+both_plain g a0 k e =
+    protects_plain g (cmp_set a0) k e
     ∙ ap (λ (b : Bool). ltb k g.blocks && b) (picked_same g a0 k)
-    ∙ sym (protects-plain g (cmpCleared a0) k (cleared-plain g.stepping a0))
+    ∙ sym (protects_plain g (cmp_cleared a0) k (cleared_plain g.stepping a0))
 
-pub at-the-ends-nothing : AtTheEndsNothing
-at-the-ends-nothing g a0 k h = both-plain g a0 k (ends-plain g.stepping (cmpSet a0) (rw (bp-set a0) h))
+pub at_the_ends_nothing : AtTheEndsNothing
+at_the_ends_nothing g a0 k h = both_plain g a0 k (ends_plain g.stepping (cmp_set a0) (rw (bp_set a0) h))
 
-pub first-knows-none : FirstKnowsNone
-first-knows-none g a0 k e = both-plain g a0 k (rw e)
+pub first_knows_none : FirstKnowsNone
+first_knows_none g a0 k e = both_plain g a0 k (rw e)
 
-pub none-beyond : NoneBeyond
+pub none_beyond : NoneBeyond
 unfolding protects
-none-beyond g a0 k h = rw (le-ltb k g.blocks h)
+none_beyond g a0 k h = rw (le-ltb k g.blocks h)
 
 -- of N below 2^(7-b) nothing is picked
 picked_none : (g : Geometry) (a0 k : ℕ) → guarded g (bp a0) ≡ 0 → k < g.blocks → picked g a0 k ≡ false
@@ -115,34 +115,34 @@ picked_none g a0 k e h = rw e (go (inv a0))
     go true = le-ltb k 0 (omega arith)
     go false = lt-leb (g.blocks - 0) k (omega arith)
 
-pub small-all-protected : SmallAllProtected
-small-all-protected g a0 k e lo hi few h =
+pub small_all_protected : SmallAllProtected
+small_all_protected g a0 k e lo hi few h =
     rw (
-      protects-turned g (cmpSet a0) k (rw e (set-turned a0 lo hi)),
+      protects_turned g (cmp_set a0) k (rw e (set_turned a0 lo hi)),
       lt-ltb k g.blocks h,
-      picked_none g (cmpSet a0) k (rw (bp-set a0) none) h,
+      picked_none g (cmp_set a0) k (rw (bp_set a0) none) h,
     )
   where
     none : guarded g (bp a0) ≡ 0
-    none = cond-keep (λ (q : ℕ). q ≡ 0) (eqb (bp a0) 0) (λ i. refl) (λ i. div-eq_of_lt few)
+    none = cond_keep (λ (q : ℕ). q ≡ 0) (eqb (bp a0) 0) (λ i. refl) (λ i. div-eq_of_lt few)
 
-pub none-and-all : NoneAndAll
-none-and-all g a0 k = (λ e. none e, λ e h. all e h)
+pub none_and_all : NoneAndAll
+none_and_all g a0 k = (λ e. none e, λ e h. all e h)
   where
     none : bp a0 ≡ 0 → protects g a0 k ≡ false
-    none e = protects-plain g a0 k (ends-plain g.stepping a0 (inl e)) ∙ below (ltb k g.blocks) (λ l. picked_none g a0 k (rw e) (ltb→lt k g.blocks (true-T _ l)))
+    none e = protects_plain g a0 k (ends_plain g.stepping a0 (inl e)) ∙ below (ltb k g.blocks) (λ l. picked_none g a0 k (rw e) (ltb→lt k g.blocks (true_T _ l)))
       where
         below : (b : Bool) → (b ≡ true → picked g a0 k ≡ false) → (b && picked g a0 k) ≡ false
         below true f = f refl
         below false f = refl
 
     all : bp a0 ≡ 7 → k < g.blocks → protects g a0 k ≡ true
-    all e h = rw (protects-plain g a0 k (ends-plain g.stepping a0 (inr e)), lt-ltb k g.blocks h, e, div-one g.blocks) (go (inv a0))
+    all e h = rw (protects_plain g a0 k (ends_plain g.stepping a0 (inr e)), lt-ltb k g.blocks h, e, div-one g.blocks) (go (inv a0))
       where
         go : (i : Bool) → cond i (ltb k g.blocks) (leb (g.blocks - g.blocks) k) ≡ true
         go true = lt-ltb k g.blocks h
         go false = le-leb (g.blocks - g.blocks) k (omega arith)
 
-pub without-cmp-alike : WithoutCmpAlike
+pub without_cmp_alike : WithoutCmpAlike
 unfolding protects
-without-cmp-alike g a0 k e = rw e
+without_cmp_alike g a0 k e = rw e

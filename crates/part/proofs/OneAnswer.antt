@@ -26,35 +26,35 @@ use Rattle.part.proofs.wide.Kinds as wide-kinds
 use Rattle.part.proofs.wide_short.Reads as wide-short-reads
 use Rattle.part.proofs.wide_short.Kinds as wide-short-kinds
 
-pub page-one : OneAnswer 0 page-kinds.ps page-kinds.r page-reads.Post
-page-one κs a x y s t p q = p ∙ sym q
+pub page_one : OneAnswer 0 page-kinds.ps page-kinds.r page-reads.Post
+page_one κs a x y s t p q = p ∙ sym q
 
-pub rows-one : OneAnswer 0 rows_kinds.ps rows_kinds.r rows-reads.Post
-rows-one κs a x y s t p q = p ∙ sym q
+pub rows_one : OneAnswer 0 rows_kinds.ps rows_kinds.r rows-reads.Post
+rows_one κs a x y s t p q = p ∙ sym q
 
-pub sound-one : OneAnswer 0 sound-kinds.ps sound-kinds.r sound-reads.Post
-sound-one κs a x y s t p q = p ∙ sym q
+pub sound_one : OneAnswer 0 sound-kinds.ps sound-kinds.r sound-reads.Post
+sound_one κs a x y s t p q = p ∙ sym q
 
 pub block_one : OneAnswer 0 block-kinds.ps block-kinds.r block_reads.Post
 block_one κs a x y s t p q = p ∙ sym q
 
-pub place-one : OneAnswer 0 place-kinds.ps place-kinds.r place-reads.Post
-place-one κs a x y s t p q = p ∙ sym q
+pub place_one : OneAnswer 0 place-kinds.ps place-kinds.r place-reads.Post
+place_one κs a x y s t p q = p ∙ sym q
 
-pub protected-one : OneAnswer 0 protected-kinds.ps protected-kinds.r protected-reads.Post
-protected-one κs a x y s t p q = p ∙ sym q
+pub protected_one : OneAnswer 0 protected-kinds.ps protected-kinds.r protected-reads.Post
+protected_one κs a x y s t p q = p ∙ sym q
 
-pub fm25s005bi3-one : OneAnswer 0 fm25s005bi3-kinds.ps fm25s005bi3-kinds.r fm25s005bi3-reads.Post
-fm25s005bi3-one κs a x y s t p q = p ∙ sym q
+pub fm25s005bi3_one : OneAnswer 0 fm25s005bi3-kinds.ps fm25s005bi3-kinds.r fm25s005bi3-reads.Post
+fm25s005bi3_one κs a x y s t p q = p ∙ sym q
 
-pub bench-one : OneAnswer 0 bench-kinds.ps bench-kinds.r bench-reads.Post
-bench-one κs a x y s t p q = p ∙ sym q
+pub bench_one : OneAnswer 0 bench-kinds.ps bench-kinds.r bench-reads.Post
+bench_one κs a x y s t p q = p ∙ sym q
 
-pub wide-one : OneAnswer 0 wide-kinds.ps wide-kinds.r wide-reads.Post
-wide-one κs a x y s t p q = p ∙ sym q
+pub wide_one : OneAnswer 0 wide-kinds.ps wide-kinds.r wide-reads.Post
+wide_one κs a x y s t p q = p ∙ sym q
 
-pub wide-short-one : OneAnswer 0 wide-short-kinds.ps wide-short-kinds.r wide-short-reads.Post
-wide-short-one κs a x y s t p q = p ∙ sym q
+pub wide_short_one : OneAnswer 0 wide-short-kinds.ps wide-short-kinds.r wide-short-reads.Post
+wide_short_one κs a x y s t p q = p ∙ sym q
 
 pub fill_one : OneEnd 1 fill-kinds.ps fill-kinds.r (List ℕ) (λ κs s. s.0.now) fill-reads.Post
 fill_one κs a x y s t p q = (refl, p ∙ sym q)

@@ -18,15 +18,15 @@ rows g = g.pages * g.blocks
 -- sound geometry, in the paper's words
 pub record Sound (g : Geometry) : Type 0 where
   pub some_bytes : 1 ≤ g.main
-  pub small-page : page g ≤ 4096
-  pub some-pages : 1 ≤ g.pages
-  pub few-pages : g.pages ≤ 256
-  pub some-blocks : 1 ≤ g.blocks
-  pub few-rows : rows g ≤ 65536
+  pub small_page : page g ≤ 4096
+  pub some_pages : 1 ≤ g.pages
+  pub few_pages : g.pages ≤ 256
+  pub some_blocks : 1 ≤ g.blocks
+  pub few_rows : rows g ≤ 65536
 
 -- the same as a test
-unfoldable pub soundPart : Geometry → Bool
-soundPart g = leb 1 g.main && leb (page g) 4096 && leb 1 g.pages && leb g.pages 256 && leb 1 g.blocks && leb (rows g) 65536
+unfoldable pub sound_part : Geometry → Bool
+sound_part g = leb 1 g.main && leb (page g) 4096 && leb 1 g.pages && leb g.pages 256 && leb 1 g.blocks && leb (rows g) 65536
 
 -- the cell of row r, column c is at r·P + c
 abbrev pub place : Geometry → Row → Column → ℕ
@@ -37,8 +37,8 @@ abbrev pub block : Geometry → Row → ℕ
 block g r = r.0 / g.pages
 
 -- the same part of another stepping
-abbrev pub ofStepping : Stepping → Geometry → Geometry
-ofStepping st g = record { main = g.main; spare = g.spare; pages = g.pages; blocks = g.blocks; id0 = g.id0; id1 = g.id1; stepping = st }
+abbrev pub of_stepping : Stepping → Geometry → Geometry
+of_stepping st g = record { main = g.main; spare = g.spare; pages = g.pages; blocks = g.blocks; id0 = g.id0; id1 = g.id1; stepping = st }
 
 -- a part of nothing, which is not sound
 abbrev pub no_part : Geometry

@@ -37,8 +37,8 @@ unfoldable pub protects : Geometry → ℕ → ℕ → Bool
 protects g a0 k = ltb k g.blocks && (if complemented g.stepping a0 then not (picked g a0 k) else picked g a0 k)
 
 -- A0h with CMP 1, and with CMP 0, its other bits as they are
-abbrev pub cmpSet : ℕ → ℕ
-cmpSet a0 = a0 / 4 * 4 + 2 + a0 % 2
+abbrev pub cmp_set : ℕ → ℕ
+cmp_set a0 = a0 / 4 * 4 + 2 + a0 % 2
 
-abbrev pub cmpCleared : ℕ → ℕ
-cmpCleared a0 = a0 / 4 * 4 + a0 % 2
+abbrev pub cmp_cleared : ℕ → ℕ
+cmp_cleared a0 = a0 / 4 * 4 + a0 % 2

@@ -1,7 +1,7 @@
 // The part: its geometry and when that is sound, the row and the column address, and which blocks are protected.
 // Document 01, "The article" and "Protection".
 ghost use Rattle.std.specs.Prelude.{◌≡◌, ◌^◌, ◌<◌, length, replicate};
-ghost use Rattle.part.specs.Part.{page, rows, soundPart, place, block, fm25s005bi3, bench};
+ghost use Rattle.part.specs.Part.{page, rows, sound_part, place, block, fm25s005bi3, bench};
 ghost use Rattle.part.specs.Protection.{bp, guarded, picked, complemented, protects};
 
 // The stepping of a part. The second has CMP, the complement bit, in A0h.
@@ -49,7 +49,7 @@ impl Geometry {
 
     // D at least 1, P at most 4,096, K from 1 to 256, N at least 1, K times N at most 65,536.
     pub fn sound(self) -> bool
-        ensures { result ≡ soundPart self }
+        ensures { result ≡ sound_part self }
     {
         if self.main < 1 {
             return false;

@@ -1,31 +1,31 @@
 -- The part in plain numbers, as C has them: what they stand for, the numbers of a part, and the lengths that the lent memory must have.
 use Rattle.std.specs.Prelude.{ℕ, ◌*◌, eqb, leb}
 use Rattle.part.specs.Choice.{if◌then◌else◌}
-use Rattle.part.specs.Part.{page, rows, soundPart, no_part}
+use Rattle.part.specs.Part.{page, rows, sound_part, no_part}
 use Rattle.part.specs.declared.Geometry.{Geometry}
 use Rattle.part.specs.declared.Stepping.{Stepping}
 use Rattle.part.specs.declared.Stepping.TheVariants.{First, Second}
 use Rattle.part_numbers.specs.declared.CGeometry.{CGeometry}
 
 -- the stepping of a number: 0 first, 1 second
-abbrev pub steppingAt : ℕ → Stepping
-steppingAt k = if eqb k 0 then First else Second
+abbrev pub stepping_at : ℕ → Stepping
+stepping_at k = if eqb k 0 then First else Second
 
 -- the geometry that the numbers stand for; a stepping above 1 is that of no part
 abbrev pub part_of : CGeometry → Geometry
 part_of g =
     if leb g.stepping 1
-    then record { main = g.main; spare = g.spare; pages = g.pages; blocks = g.blocks; id0 = g.id0; id1 = g.id1; stepping = steppingAt g.stepping }
+    then record { main = g.main; spare = g.spare; pages = g.pages; blocks = g.blocks; id0 = g.id0; id1 = g.id1; stepping = stepping_at g.stepping }
     else no_part
 
 -- the number of a stepping
-abbrev pub steppingNumber : Stepping → ℕ
-steppingNumber First = 0
-steppingNumber Second = 1
+abbrev pub stepping_number : Stepping → ℕ
+stepping_number First = 0
+stepping_number Second = 1
 
 -- the numbers of a geometry
-abbrev pub facePart : Geometry → CGeometry
-facePart g =
+abbrev pub face_part : Geometry → CGeometry
+face_part g =
     record {
       main = g.main;
       spare = g.spare;
@@ -33,17 +33,17 @@ facePart g =
       blocks = g.blocks;
       id0 = g.id0;
       id1 = g.id1;
-      stepping = steppingNumber g.stepping;
+      stepping = stepping_number g.stepping;
     }
 
 -- the lengths that the lent memory must have, 0 for an unsound part: P times K times N cells
-abbrev pub cellsLength : Geometry → ℕ
-cellsLength g = if soundPart g then rows g * page g else 0
+abbrev pub cells_length : Geometry → ℕ
+cells_length g = if sound_part g then rows g * page g else 0
 
 -- P bytes of cache register
-abbrev pub cacheLength : Geometry → ℕ
-cacheLength g = if soundPart g then page g else 0
+abbrev pub cache_length : Geometry → ℕ
+cache_length g = if sound_part g then page g else 0
 
 -- K times N page counts
-abbrev pub countsLength : Geometry → ℕ
-countsLength g = if soundPart g then rows g else 0
+abbrev pub counts_length : Geometry → ℕ
+counts_length g = if sound_part g then rows g else 0

@@ -1,7 +1,7 @@
 // A part in the numbers of C: its struct of include/sleetanvil.h, what the numbers stand for, and the lengths that it asks for.
 ghost use Rattle.std.specs.Prelude.{◌≡◌};
 ghost use Rattle.part.specs.Part.{no_part};
-ghost use Rattle.part_numbers.specs.Numbers.{steppingAt, steppingNumber, part_of, facePart, cellsLength, cacheLength, countsLength};
+ghost use Rattle.part_numbers.specs.Numbers.{stepping_at, stepping_number, part_of, face_part, cells_length, cache_length, counts_length};
 
 use part::{Geometry, Stepping};
 
@@ -20,7 +20,7 @@ pub struct CGeometry {
 
 // The stepping of a number.
 fn stepping_at(k: u8) -> Stepping
-    ensures { result ≡ steppingAt k }
+    ensures { result ≡ stepping_at k }
 {
     if k == 0 {
         Stepping::First
@@ -31,7 +31,7 @@ fn stepping_at(k: u8) -> Stepping
 
 // The number of a stepping.
 fn stepping_number(stepping: Stepping) -> u8
-    ensures { result ≡ steppingNumber stepping }
+    ensures { result ≡ stepping_number stepping }
 {
     match stepping {
         Stepping::First => 0,
@@ -75,7 +75,7 @@ pub fn part_of(g: CGeometry) -> Geometry
 
 // The numbers of a geometry.
 pub fn face_part(g: Geometry) -> CGeometry
-    ensures { result ≡ facePart g }
+    ensures { result ≡ face_part g }
 {
     let s = g.stepping;
     let stepping = stepping_number(s);
@@ -92,7 +92,7 @@ pub fn face_part(g: Geometry) -> CGeometry
 
 // The length that cells must have.
 pub fn cells_length(part: CGeometry) -> usize
-    ensures { result ≡ cellsLength (part_of part) }
+    ensures { result ≡ cells_length (part_of part) }
 {
     let g = part_of(part);
     if !g.sound() {
@@ -103,7 +103,7 @@ pub fn cells_length(part: CGeometry) -> usize
 
 // The length that the cache register must have.
 pub fn cache_length(part: CGeometry) -> usize
-    ensures { result ≡ cacheLength (part_of part) }
+    ensures { result ≡ cache_length (part_of part) }
 {
     let g = part_of(part);
     if !g.sound() {
@@ -114,7 +114,7 @@ pub fn cache_length(part: CGeometry) -> usize
 
 // The length that page counts must have.
 pub fn counts_length(part: CGeometry) -> usize
-    ensures { result ≡ countsLength (part_of part) }
+    ensures { result ≡ counts_length (part_of part) }
 {
     let g = part_of(part);
     if !g.sound() {

@@ -11,48 +11,48 @@ use lib.Seq.{get_or-set_other}
 use Rattle.part.specs.Choice.{if◌then◌else◌}
 use Rattle.cardlog.specs.declared.Record.{Record}
 use Rattle.card.specs.Table.{counter}
-use Rattle.card.specs.Card.{Card, isOpen, cell_at, step, run}
-use Rattle.slot.proofs.Rooms.{run-done}
+use Rattle.card.specs.Card.{Card, is_open, cell_at, step, run}
+use Rattle.slot.proofs.Rooms.{run_done}
 use Rattle.passing.specs.Promises.{done_of, NotOpenFor, clears, OnlyCounted, OnlyCounter}
-use Rattle.passing.proofs.Digits.{and-digit}
+use Rattle.passing.proofs.Digits.{and_digit}
 use Rattle.passing.proofs.Shut.{stored}
 use Rattle.passing.proofs.Steps.{mask_of, Leaves, alone, less, leaves}
 
 -- ---- one record
 
 -- the counter then
-pub left-counter : (c : Card) (m : ℕ) (n : Card) {b : Bool} → Leaves c m n b →
+pub left_counter : (c : Card) (m : ℕ) (n : Card) {b : Bool} → Leaves c m n b →
     cell_at n.cells counter ≡ (if b then bit_and (cell_at c.cells counter) m else cell_at c.cells counter)
-left-counter c m n (alone x y) = rw x
-left-counter c m n (less f t x y) =
+left_counter c m n (alone x y) = rw x
+left_counter c m n (less f t x y) =
     rw x (stored c.cells counter (bit_and (cell_at c.cells counter) m) (and_le_l (cell_at c.cells counter) m))
 
-pub counter-after : (c : Card) (e : Record) → isOpen c.stage ≡ false →
+pub counter_after : (c : Card) (e : Record) → is_open c.stage ≡ false →
     cell_at (step c e).cells counter ≡ (if clears c e then bit_and (cell_at c.cells counter) (mask_of e) else cell_at c.cells counter)
-counter-after c e f = left-counter c (mask_of e) (step c e) (leaves c e f)
+counter_after c e f = left_counter c (mask_of e) (step c e) (leaves c e f)
 
 -- and all else as it was
-left-others : (c : Card) (m : ℕ) (n : Card) {b : Bool} → Leaves c m n b → OnlyCounted c n
-left-others c m n (alone x y) =
+left_others : (c : Card) (m : ℕ) (n : Card) {b : Bool} → Leaves c m n b → OnlyCounted c n
+left_others c m n (alone x y) =
     record { bits = y; long = ap length x; others = λ a f. ap (λ (l : List ℕ). cell_at l a) x; lost = λ k. rw x (le_refl (cell_at c.cells counter / 2 ^ k % 2)) }
-left-others c m n (less f t x y) =
+left_others c m n (less f t x y) =
     record {
       bits = y;
       long = rw x (length-set c.cells counter (bit_and (cell_at c.cells counter) m));
       others = λ a g. rw x (get_or-set_other c.cells counter a (bit_and (cell_at c.cells counter) m) 0 g);
-      lost = λ k. rw (left-counter c m n (less f t x y)) (and-digit (cell_at c.cells counter) m k);
+      lost = λ k. rw (left_counter c m n (less f t x y)) (and_digit (cell_at c.cells counter) m k);
     }
 
-pub only_step : (c : Card) (e : Record) → isOpen c.stage ≡ false → OnlyCounted c (step c e)
-only_step c e f = left-others c (mask_of e) (step c e) (leaves c e f)
+pub only_step : (c : Card) (e : Record) → is_open c.stage ≡ false → OnlyCounted c (step c e)
+only_step c e f = left_others c (mask_of e) (step c e) (leaves c e f)
 
 -- ---- any records
 
 only_none : (c : Card) → OnlyCounted c c
 only_none c = record { bits = refl; long = refl; others = λ a f. refl; lost = λ k. le_refl (cell_at c.cells counter / 2 ^ k % 2) }
 
-only-more : (c d e : Card) → OnlyCounted c d → OnlyCounted d e → OnlyCounted c e
-only-more c d e x y =
+only_more : (c d e : Card) → OnlyCounted c d → OnlyCounted d e → OnlyCounted c e
+only_more c d e x y =
     record {
       bits = y.bits ∙ x.bits;
       long = y.long ∙ x.long;
@@ -61,21 +61,21 @@ only-more c d e x y =
     }
 
 -- not open as any record begins: not as the first, nor as any of the others
-pub not_first : (c : Card) (e : Record) (es : List Record) → NotOpenFor c (e ∷ es) → isOpen c.stage ≡ false
+pub not_first : (c : Card) (e : Record) (es : List Record) → NotOpenFor c (e ∷ es) → is_open c.stage ≡ false
 unfolding run
 not_first c e es f = f 0 (omega arith)
 
-pub not-rest : (c : Card) (e : Record) (es : List Record) → NotOpenFor c (e ∷ es) → NotOpenFor (step c e) es
+pub not_rest : (c : Card) (e : Record) (es : List Record) → NotOpenFor c (e ∷ es) → NotOpenFor (step c e) es
 unfolding run
-not-rest c e es f n h = f (suc n) (omega arith)
+not_rest c e es f n h = f (suc n) (omega arith)
 
-only-run : (c : Card) (es : List Record) → NotOpenFor c es → OnlyCounted c (run c es)
+only_run : (c : Card) (es : List Record) → NotOpenFor c es → OnlyCounted c (run c es)
 unfolding run
-only-run c [] f = only_none c
-only-run c (e ∷ es) f =
-    only-more c (step c e) (run (step c e) es) (only_step c e (not_first c e es f)) (only-run (step c e) es (not-rest c e es f))
+only_run c [] f = only_none c
+only_run c (e ∷ es) f =
+    only_more c (step c e) (run (step c e) es) (only_step c e (not_first c e es f)) (only_run (step c e) es (not_rest c e es f))
 
 -- ---- a run
 
-pub only-counter : OnlyCounter
-only-counter room log c f = rw (run-done room log c) (only-run c (done_of room log c) f)
+pub only_counter : OnlyCounter
+only_counter room log c f = rw (run_done room log c) (only_run c (done_of room log c) f)

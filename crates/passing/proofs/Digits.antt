@@ -9,34 +9,34 @@ use lib.Bits.{bit_and, and_shr}
 use lib.Count.{ones, ones_in, ones_step}
 use lib.Dec.{eqb}
 use borrow.Author.Tests.{eqb-true, eqb-false, eq-eqb}
-use Rattle.part.proofs.Bits.{and-odd}
-use Rattle.card.specs.Card.{clearsOne}
+use Rattle.part.proofs.Bits.{and_odd}
+use Rattle.card.specs.Card.{clears_one}
 use Rattle.passing.specs.Promises.{OneBitLess, ClearsExactly}
 
 -- ---- a digit
 
 -- of half a number: the next of the number
-pub half-digit : (n k : ℕ) → n / 2 / 2 ^ k ≡ n / 2 ^ suc k
-half-digit n k = div-div-eq-div-mul n 2 (2 ^ k) ∙ ap (λ (x : ℕ). n / x) (sym (pow-succ' 2 k))
+pub half_digit : (n k : ℕ) → n / 2 / 2 ^ k ≡ n / 2 ^ suc k
+half_digit n k = div-div-eq-div-mul n 2 (2 ^ k) ∙ ap (λ (x : ℕ). n / x) (sym (pow-succ' 2 k))
 
 -- the lowest
 low_digit : (n : ℕ) → n / 2 ^ 0 % 2 ≡ n % 2
 low_digit n = ap (λ (x : ℕ). x % 2) (div-one n)
 
 -- the half of an AND
-and-half : (a b : ℕ) → bit_and a b / 2 ≡ bit_and (a / 2) (b / 2)
-and-half a b = and_shr a b 1
+and_half : (a b : ℕ) → bit_and a b / 2 ≡ bit_and (a / 2) (b / 2)
+and_half a b = and_shr a b 1
 
 -- an AND has no digit that the number has not
-pub and-digit : (a b k : ℕ) → bit_and a b / 2 ^ k % 2 ≤ a / 2 ^ k % 2
-and-digit a b k = rw (and_shr a b k) (omega (arith, and-odd (a / 2 ^ k) (b / 2 ^ k)))
+pub and_digit : (a b k : ℕ) → bit_and a b / 2 ^ k % 2 ≤ a / 2 ^ k % 2
+and_digit a b k = rw (and_shr a b k) (omega (arith, and_odd (a / 2 ^ k) (b / 2 ^ k)))
 
 -- numbers with the same digits are the same
 same_digits : (a b : ℕ) → ((k : ℕ) → a / 2 ^ k % 2 ≡ b / 2 ^ k % 2) → a ≡ b
 same_digits a = bin_ind (λ (a : ℕ). (b : ℕ) → ((k : ℕ) → a / 2 ^ k % 2 ≡ b / 2 ^ k % 2) → a ≡ b) none more a
   where
     halves : (a b : ℕ) → ((k : ℕ) → a / 2 ^ k % 2 ≡ b / 2 ^ k % 2) → (k : ℕ) → a / 2 / 2 ^ k % 2 ≡ b / 2 / 2 ^ k % 2
-    halves a b h k = rw (half-digit a k, half-digit b k) (h (suc k))
+    halves a b h k = rw (half_digit a k, half_digit b k) (h (suc k))
 
     more : (a : ℕ) → ((b : ℕ) → ((k : ℕ) → a / 2 / 2 ^ k % 2 ≡ b / 2 ^ k % 2) → a / 2 ≡ b) → (b : ℕ) → ((k : ℕ) → a / 2 ^ k % 2 ≡ b / 2 ^ k % 2) → a ≡ b
     more a ih b h = omega (arith, ih (b / 2) (halves a b h), h 0, low_digit a, low_digit b)
@@ -50,21 +50,21 @@ same_digits a = bin_ind (λ (a : ℕ). (b : ℕ) → ((k : ℕ) → a / 2 ^ k % 
 -- there is one more to count
 less_ones : (k old new : ℕ) → old / 2 ^ k % 2 ≡ 1 → new / 2 ^ k % 2 ≡ 0 → ((j : ℕ) → ¬ (j ≡ k) → new / 2 ^ j % 2 ≡ old / 2 ^ j % 2) → ones old ≡ ones new + 1
 less_ones zero old new w i o =
-    let e : old / 2 ≡ new / 2 = same_digits (old / 2) (new / 2) (λ j. rw (half-digit old j, half-digit new j) (sym (o (suc j) (λ z. omega arith)))) in
+    let e : old / 2 ≡ new / 2 = same_digits (old / 2) (new / 2) (λ j. rw (half_digit old j, half_digit new j) (sym (o (suc j) (λ z. omega arith)))) in
     let c : ones (old / 2) ≡ ones (new / 2) = ap ones e in
     omega (arith, ones_step old, ones_step new, low_digit old, low_digit new)
 less_ones (suc k) old new w i o =
     let c : ones (old / 2) ≡ ones (new / 2) + 1 =
-    less_ones k (old / 2) (new / 2) (rw (half-digit old k) w) (rw (half-digit new k) i) (λ j f. rw (half-digit old j, half-digit new j) (o (suc j) (λ z. f (omega arith)))) in
+    less_ones k (old / 2) (new / 2) (rw (half_digit old k) w) (rw (half_digit new k) i) (λ j f. rw (half_digit old j, half_digit new j) (o (suc j) (λ z. f (omega arith)))) in
     omega (arith, ones_step old, ones_step new, o 0 (λ z. omega arith), low_digit old, low_digit new)
 
 -- an AND has no more digits set than the number
-and-ones : (a b : ℕ) → ones (bit_and a b) ≤ ones a
+and_ones : (a b : ℕ) → ones (bit_and a b) ≤ ones a
 unfolding ones ones_in
-and-ones a = bin_ind (λ (a : ℕ). (b : ℕ) → ones (bit_and a b) ≤ ones a) (λ b. omega arith) more a
+and_ones a = bin_ind (λ (a : ℕ). (b : ℕ) → ones (bit_and a b) ≤ ones a) (λ b. omega arith) more a
   where
     more : (a : ℕ) → ((b : ℕ) → ones (bit_and (a / 2) b) ≤ ones (a / 2)) → (b : ℕ) → ones (bit_and a b) ≤ ones a
-    more a ih b = omega (arith, ones_step a, ones_step (bit_and a b), ap ones (and-half a b), and-odd a b, ih (b / 2))
+    more a ih b = omega (arith, ones_step a, ones_step (bit_and a b), ap ones (and_half a b), and_odd a b, ih (b / 2))
 
 -- and as many only where it is the number
 and_same : (a b : ℕ) → ones (bit_and a b) ≡ ones a → bit_and a b ≡ a
@@ -72,72 +72,72 @@ and_same a = bin_ind (λ (a : ℕ). (b : ℕ) → ones (bit_and a b) ≡ ones a 
   where
     more : (a : ℕ) → ((b : ℕ) → ones (bit_and (a / 2) b) ≡ ones (a / 2) → bit_and (a / 2) b ≡ a / 2) → (b : ℕ) → ones (bit_and a b) ≡ ones a → bit_and a b ≡ a
     more a ih b e =
-        let s : ones (bit_and a b / 2) ≡ ones (bit_and (a / 2) (b / 2)) = ap ones (and-half a b) in
-        let l : ones (bit_and (a / 2) (b / 2)) ≤ ones (a / 2) = and-ones (a / 2) (b / 2) in
-        let h : ones (bit_and (a / 2) (b / 2)) ≡ ones (a / 2) = omega (arith, ones_step a, ones_step (bit_and a b), and-odd a b) in
-        omega (arith, ones_step a, ones_step (bit_and a b), and-odd a b, and-half a b, ih (b / 2) h)
+        let s : ones (bit_and a b / 2) ≡ ones (bit_and (a / 2) (b / 2)) = ap ones (and_half a b) in
+        let l : ones (bit_and (a / 2) (b / 2)) ≤ ones (a / 2) = and_ones (a / 2) (b / 2) in
+        let h : ones (bit_and (a / 2) (b / 2)) ≡ ones (a / 2) = omega (arith, ones_step a, ones_step (bit_and a b), and_odd a b) in
+        omega (arith, ones_step a, ones_step (bit_and a b), and_odd a b, and_half a b, ih (b / 2) h)
 
 -- a digit above the lowest, of an AND
-and-next : (a b k : ℕ) → bit_and a b / 2 ^ suc k % 2 ≡ bit_and (a / 2) (b / 2) / 2 ^ k % 2
-and-next a b k = ap (λ (x : ℕ). x % 2) (sym (half-digit (bit_and a b) k)) ∙ ap (λ (x : ℕ). x / 2 ^ k % 2) (and-half a b)
+and_next : (a b k : ℕ) → bit_and a b / 2 ^ suc k % 2 ≡ bit_and (a / 2) (b / 2) / 2 ^ k % 2
+and_next a b k = ap (λ (x : ℕ). x % 2) (sym (half_digit (bit_and a b) k)) ∙ ap (λ (x : ℕ). x / 2 ^ k % 2) (and_half a b)
 
 -- where an AND has one digit fewer: the lowest is the one
-lost-low : (old mask : ℕ) → ¬ (min (old % 2) (mask % 2) ≡ old % 2) → bit_and (old / 2) (mask / 2) ≡ old / 2 → OneBitLess old (bit_and old mask)
-lost-low old mask f e =
+lost_low : (old mask : ℕ) → ¬ (min (old % 2) (mask % 2) ≡ old % 2) → bit_and (old / 2) (mask / 2) ≡ old / 2 → OneBitLess old (bit_and old mask)
+lost_low old mask f e =
     record {
       bit = 0;
       was = omega (arith, low_digit old);
-      is = omega (arith, low_digit (bit_and old mask), and-odd old mask);
+      is = omega (arith, low_digit (bit_and old mask), and_odd old mask);
       others = others;
     }
   where
     others : (k : ℕ) → ¬ (k ≡ 0) → bit_and old mask / 2 ^ k % 2 ≡ old / 2 ^ k % 2
     others zero g = absurd (g refl)
-    others (suc k) g = and-next old mask k ∙ ap (λ (x : ℕ). x / 2 ^ k % 2) e ∙ ap (λ (x : ℕ). x % 2) (half-digit old k)
+    others (suc k) g = and_next old mask k ∙ ap (λ (x : ℕ). x / 2 ^ k % 2) e ∙ ap (λ (x : ℕ). x % 2) (half_digit old k)
 
 -- or one above it
-lost-above : (old mask : ℕ) → min (old % 2) (mask % 2) ≡ old % 2 → OneBitLess (old / 2) (bit_and (old / 2) (mask / 2)) → OneBitLess old (bit_and old mask)
-lost-above old mask e x =
+lost_above : (old mask : ℕ) → min (old % 2) (mask % 2) ≡ old % 2 → OneBitLess (old / 2) (bit_and (old / 2) (mask / 2)) → OneBitLess old (bit_and old mask)
+lost_above old mask e x =
     record {
       bit = suc x.bit;
-      was = ap (λ (y : ℕ). y % 2) (sym (half-digit old x.bit)) ∙ x.was;
-      is = and-next old mask x.bit ∙ x.is;
+      was = ap (λ (y : ℕ). y % 2) (sym (half_digit old x.bit)) ∙ x.was;
+      is = and_next old mask x.bit ∙ x.is;
       others = others;
     }
   where
     others : (k : ℕ) → ¬ (k ≡ suc x.bit) → bit_and old mask / 2 ^ k % 2 ≡ old / 2 ^ k % 2
-    others zero g = omega (arith, low_digit (bit_and old mask), low_digit old, and-odd old mask)
-    others (suc k) g = and-next old mask k ∙ x.others k (λ z. g (ap suc z)) ∙ ap (λ (x : ℕ). x % 2) (half-digit old k)
+    others zero g = omega (arith, low_digit (bit_and old mask), low_digit old, and_odd old mask)
+    others (suc k) g = and_next old mask k ∙ x.others k (λ z. g (ap suc z)) ∙ ap (λ (x : ℕ). x % 2) (half_digit old k)
 
 -- so wherever it has one fewer to count, it has lost one
-ones-less : (old mask : ℕ) → ones old ≡ ones (bit_and old mask) + 1 → OneBitLess old (bit_and old mask)
+ones_less : (old mask : ℕ) → ones old ≡ ones (bit_and old mask) + 1 → OneBitLess old (bit_and old mask)
 unfolding ones ones_in
-ones-less old = bin_ind (λ (old : ℕ). (mask : ℕ) → ones old ≡ ones (bit_and old mask) + 1 → OneBitLess old (bit_and old mask)) (λ mask e. absurd (omega arith)) more old
+ones_less old = bin_ind (λ (old : ℕ). (mask : ℕ) → ones old ≡ ones (bit_and old mask) + 1 → OneBitLess old (bit_and old mask)) (λ mask e. absurd (omega arith)) more old
   where
     more : (old : ℕ) → ((mask : ℕ) → ones (old / 2) ≡ ones (bit_and (old / 2) mask) + 1 → OneBitLess (old / 2) (bit_and (old / 2) mask)) →
         (mask : ℕ) → ones old ≡ ones (bit_and old mask) + 1 → OneBitLess old (bit_and old mask)
     more old ih mask e = go (eqb (min (old % 2) (mask % 2)) (old % 2)) refl
       where
         s : ones (bit_and old mask / 2) ≡ ones (bit_and (old / 2) (mask / 2))
-        s = ap ones (and-half old mask)
+        s = ap ones (and_half old mask)
 
         go : (t : Bool) → eqb (min (old % 2) (mask % 2)) (old % 2) ≡ t → OneBitLess old (bit_and old mask)
         go true t =
             let q : min (old % 2) (mask % 2) ≡ old % 2 = eqb-true (min (old % 2) (mask % 2)) (old % 2) t in
-            lost-above old mask q (ih (mask / 2) (omega (arith, ones_step old, ones_step (bit_and old mask), and-odd old mask, s)))
+            lost_above old mask q (ih (mask / 2) (omega (arith, ones_step old, ones_step (bit_and old mask), and_odd old mask, s)))
         go false t =
             let q : ¬ (min (old % 2) (mask % 2) ≡ old % 2) = eqb-false (min (old % 2) (mask % 2)) (old % 2) t in
-            lost-low old mask q (and_same (old / 2) (mask / 2) (omega (arith, ones_step old, ones_step (bit_and old mask), and-odd old mask, s)))
+            lost_low old mask q (and_same (old / 2) (mask / 2) (omega (arith, ones_step old, ones_step (bit_and old mask), and_odd old mask, s)))
 
 -- ---- a counter command's mask clears exactly one bit
 
-pub clears-fewer : (old mask : ℕ) → clearsOne old mask ≡ true → ones old ≡ ones (bit_and old mask) + 1
-unfolding clearsOne
-clears-fewer old mask t = eqb-true (ones old) (ones (bit_and old mask) + 1) t
+pub clears_fewer : (old mask : ℕ) → clears_one old mask ≡ true → ones old ≡ ones (bit_and old mask) + 1
+unfolding clears_one
+clears_fewer old mask t = eqb-true (ones old) (ones (bit_and old mask) + 1) t
 
-pub clears-exactly : ClearsExactly
-unfolding clearsOne
-clears-exactly old mask = (
-  λ t. ones-less old mask (clears-fewer old mask t),
+pub clears_exactly : ClearsExactly
+unfolding clears_one
+clears_exactly old mask = (
+  λ t. ones_less old mask (clears_fewer old mask t),
   λ x. eq-eqb (ones old) (ones (bit_and old mask) + 1) (less_ones x.bit old (bit_and old mask) x.was x.is x.others),
 )

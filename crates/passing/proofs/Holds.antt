@@ -8,8 +8,8 @@ use lib.Bits.{bit_and}
 use lib.Seq.{get_or-set_same, get_or-set_other}
 use borrow.Author.Tests.{eq-eqb}
 use Rattle.cardlog.specs.declared.Record.TheVariants.{Sent, Power}
-use Rattle.card.specs.Table.{commandOf, counter, code₁, code₂}
-use Rattle.card.specs.Card.{Card, cell_at, counted, compared, stageAfter, commanded, sent, step, run}
+use Rattle.card.specs.Table.{command_of, counter, code₁, code₂}
+use Rattle.card.specs.Card.{Card, cell_at, counted, compared, stage_after, commanded, sent, step, run}
 use Rattle.card.specs.declared.Command.{Command}
 use Rattle.card.specs.declared.Command.TheVariants.{WriteWithBit, Write, Protect, ReadWithBit, Read, Count, Compare, Ignored}
 use Rattle.card.specs.declared.Stage.{Stage}
@@ -23,9 +23,9 @@ three Counted = refl
 three Half = refl
 three Open = refl
 
-pub code-opens : CodeOpens
-unfolding run step commanded commandOf
-code-opens c mask t =
+pub code_opens : CodeOpens
+unfolding run step commanded command_of
+code_opens c mask t =
     let new : ℕ = bit_and (cell_at c.cells counter) mask in
     rw (
       t,
@@ -36,7 +36,7 @@ code-opens c mask t =
     )
     (three c.stage)
 
-open_after : (c : Card) (k : Command) (a d : ℕ) → c.stage ≡ Open → stageAfter c k a d ≡ Open
+open_after : (c : Card) (k : Command) (a d : ℕ) → c.stage ≡ Open → stage_after c k a d ≡ Open
 open_after c WriteWithBit a d o = rw o
 open_after c Write a d o = rw o
 open_after c Protect a d o = rw o
@@ -52,10 +52,10 @@ holds_on c [] o u = o
 holds_on c (Sent first second third ∷ es) o u = holds_on (step c (Sent first second third)) es (open_after c (sent first second) _ third o) u
 holds_on c (Power ∷ es) o u = cc
 
-pub power-undoes : PowerUndoes
+pub power_undoes : PowerUndoes
 unfolding step
-power-undoes c = refl
+power_undoes c = refl
 
-pub counter-restored : CounterRestored
-unfolding step commanded commandOf
-counter-restored c h o b = rw (o, b) (get_or-set_same c.cells counter 0xFF 0 h)
+pub counter_restored : CounterRestored
+unfolding step commanded command_of
+counter_restored c h o b = rw (o, b) (get_or-set_same c.cells counter 0xFF 0 h)

@@ -8,7 +8,7 @@ use Rattle.cardlog.specs.Read.{parse}
 use Rattle.cardlog.specs.declared.Record.{Record}
 use Rattle.cardlog.specs.declared.Record.TheVariants.{Sent, Power}
 use Rattle.card.specs.Table.{address_of, counter, code₁, code₂}
-use Rattle.card.specs.Card.{Card, card, isOpen, cell_at, bit_at, shut, clearsOne, spends, sent, step, run}
+use Rattle.card.specs.Card.{Card, card, is_open, cell_at, bit_at, shut, clears_one, spends, sent, step, run}
 use Rattle.card.specs.declared.Command.{Command}
 use Rattle.card.specs.declared.Command.TheVariants.{WriteWithBit, Write, Protect, ReadWithBit, Read, Count, Compare, Ignored}
 use Rattle.card.specs.declared.Stage.TheVariants.{Fresh, Counted, Half, Open}
@@ -26,7 +26,7 @@ after c es n = run c (take n es)
 
 -- not open as any of some records begins; the last of them may open it
 abbrev pub NotOpenFor : Card → List Record → Type 0
-NotOpenFor c es = (n : ℕ) → n < length es → isOpen (after c es n).stage ≡ false
+NotOpenFor c es = (n : ℕ) → n < length es → is_open (after c es n).stage ≡ false
 
 -- ---- "a byte whose protect bit is 0 never changes"
 
@@ -108,28 +108,28 @@ abbrev pub clears : Card → Record → Bool
 clears c (Sent first second third) = clearing (sent first second) c (address_of first second) third
 clears c Power = false
 
-abbrev pub rightAt : ℕ → Card → Record → Bool
-rightAt p c (Sent first second third) = right (sent first second) c (address_of first second) third p
-rightAt p c Power = false
+abbrev pub right_at : ℕ → Card → Record → Bool
+right_at p c (Sent first second third) = right (sent first second) c (address_of first second) third p
+right_at p c Power = false
 
 -- a test of the first record of a list; false where there is none
-abbrev pub ofFirst : (Record → Bool) → List Record → Bool
-ofFirst t [] = false
-ofFirst t (e ∷ es) = t e
+abbrev pub of_first : (Record → Bool) → List Record → Bool
+of_first t [] = false
+of_first t (e ∷ es) = t e
 
 -- a test of record i, on the card before it
-abbrev pub holdsAt : (Card → Record → Bool) → Card → List Record → ℕ → Type 0
-holdsAt t c es i = ofFirst (t (after c es i)) (drop i es) ≡ true
+abbrev pub holds_at : (Card → Record → Bool) → Card → List Record → ℕ → Type 0
+holds_at t c es i = of_first (t (after c es i)) (drop i es) ≡ true
 
 -- the three steps end with record i; the first one or two may have been taken at the start
 pub data PassedBy (c : Card) (es : List Record) : ℕ → Type 0 where
-  three-steps : (i : ℕ) → holdsAt clears c es i → holdsAt (rightAt code₁) c es (suc i) → holdsAt (rightAt code₂) c es (suc (suc i)) → PassedBy c es (suc (suc i))
-  two_steps : c.stage ≡ Counted → holdsAt (rightAt code₁) c es 0 → holdsAt (rightAt code₂) c es 1 → PassedBy c es 1
-  one-step : c.stage ≡ Half → holdsAt (rightAt code₂) c es 0 → PassedBy c es 0
+  three_steps : (i : ℕ) → holds_at clears c es i → holds_at (right_at code₁) c es (suc i) → holds_at (right_at code₂) c es (suc (suc i)) → PassedBy c es (suc (suc i))
+  two_steps : c.stage ≡ Counted → holds_at (right_at code₁) c es 0 → holds_at (right_at code₂) c es 1 → PassedBy c es 1
+  one_step : c.stage ≡ Half → holds_at (right_at code₂) c es 0 → PassedBy c es 0
 
 -- a card that is not open as record i begins is open after it exactly when the three steps end with it
 abbrev pub PassesBy : Type 0
-PassesBy = (c : Card) (es : List Record) (i : ℕ) → isOpen (after c es i).stage ≡ false → isOpen (after c es (suc i)).stage ≡ true ↔ PassedBy c es i
+PassesBy = (c : Card) (es : List Record) (i : ℕ) → is_open (after c es i).stage ≡ false → is_open (after c es (suc i)).stage ≡ true ↔ PassedBy c es i
 
 -- in bytes: the counter command with a mask that clears a bit, and the two compares with what the code is
 abbrev pub CodeOpens : Type 0
@@ -169,7 +169,7 @@ pub record OneBitLess (old new : ℕ) : Type 0 where
 
 -- "if that clears exactly one bit"
 abbrev pub ClearsExactly : Type 0
-ClearsExactly = (old mask : ℕ) → clearsOne old mask ≡ true ↔ OneBitLess old (bit_and old mask)
+ClearsExactly = (old mask : ℕ) → clears_one old mask ≡ true ↔ OneBitLess old (bit_and old mask)
 
 -- the counter commands among some records that clear a bit
 unfoldable pub clearings : Card → List Record → ℕ
@@ -189,4 +189,4 @@ abbrev pub Spent : Card → Type 0
 Spent c = (c.stage ≡ Fresh) × ((cell_at c.cells counter ≡ 0) ⊎ (bit_at c.bits counter ≡ 0))
 
 abbrev pub NeverOpens : Type 0
-NeverOpens = (c : Card) (es : List Record) → Spent c → (n : ℕ) → isOpen (after c es n).stage ≡ false
+NeverOpens = (c : Card) (es : List Record) → Spent c → (n : ℕ) → is_open (after c es n).stage ≡ false

@@ -7,5 +7,5 @@ use Rattle.model.proofs.OneAnswer.{lent_of}
 use Rattle.quick.proofs.run.Reads as run-reads
 use Rattle.quick.proofs.run.Kinds as run-kinds
 
-pub run-one : OneEnd 5 run-kinds.ps run-kinds.r Lent (λ κs s. lent s.1.1.1.0.now s.1.1.1.1.0.now s.1.1.1.1.1.0.now s.1.1.1.1.1.1.0.now) run-reads.Post
-run-one κs a x y s t p q = (ap (λ (e : End). e.answer) (p ∙ sym q), ap lent_of (p ∙ sym q))
+pub run_one : OneEnd 5 run-kinds.ps run-kinds.r Lent (λ κs s. lent s.1.1.1.0.now s.1.1.1.1.0.now s.1.1.1.1.1.0.now s.1.1.1.1.1.1.0.now) run-reads.Post
+run_one κs a x y s t p q = (ap (λ (e : End). e.answer) (p ∙ sym q), ap lent_of (p ∙ sym q))

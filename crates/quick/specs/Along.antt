@@ -4,9 +4,9 @@ use Rattle.device.specs.declared.State.{State}
 use Rattle.walk.specs.declared.Walk.{Walk}
 
 -- where a run stands: the state, the place, the records done, the bytes written
-abbrev pub walkAt : State → ℕ → ℕ → ℕ → Walk
-walkAt s at records written = record { state = s; at = at; records = records; written = written }
+abbrev pub walk_at : State → ℕ → ℕ → ℕ → Walk
+walk_at s at records written = record { state = s; at = at; records = records; written = written }
 
 -- behind k shifts, each a record of two bytes that puts out one
-abbrev pub shiftsOn : Walk → State → ℕ → Walk
-shiftsOn w s k = walkAt s (w.at + 2 * k) (w.records + k) (w.written + k)
+abbrev pub shifts_on : Walk → State → ℕ → Walk
+shifts_on w s k = walk_at s (w.at + 2 * k) (w.records + k) (w.written + k)

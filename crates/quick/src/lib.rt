@@ -6,8 +6,8 @@ ghost use Rattle.device.specs.Machine.{machine};
 ghost use Rattle.device.specs.Work.{unitwise};
 ghost use Rattle.kept.specs.Kept.{SoundMachine};
 ghost use Rattle.walk.specs.Turns.{answered};
-ghost use Rattle.model.specs.Runs.{ranOf, run_of, seen, shown};
-ghost use Rattle.quick.specs.Along.{walkAt};
+ghost use Rattle.model.specs.Runs.{ran_of, run_of, seen, shown};
+ghost use Rattle.quick.specs.Along.{walk_at};
 
 use buslog::Next;
 use device::State;
@@ -17,7 +17,7 @@ use walk::{Answer, Walk};
 
 // What was done so far, and why no more is.
 fn so_far(r: Refusal, s: State, at: usize, records: usize, written: usize) -> Answer
-    ensures { result ≡ answered r (walkAt s at records written) }
+    ensures { result ≡ answered r (walk_at s at records written) }
 {
     let w = Walk {
         state: s,
@@ -41,7 +41,7 @@ fn go(
 ) -> Answer
     requires { (Sound g) × (SoundMachine g (machine state cells.old cache.old counts.old)) }
     ensures { seen result cells.new cache.new counts.new out.new
-        ≡ shown (ranOf g (unitwise g) (length out.old) (parse log.now) (machine state cells.old cache.old counts.old)) out.old }
+        ≡ shown (ran_of g (unitwise g) (length out.old) (parse log.now) (machine state cells.old cache.old counts.old)) out.old }
 {
     let mut s = state;
     let mut at = 0;

@@ -10,14 +10,14 @@ use Rattle.refusals.proofs.passes.Kinds as passes-kinds
 use Rattle.refusals.proofs.check.Reads as check-reads
 use Rattle.refusals.proofs.check.Kinds as check-kinds
 
-pub number-of-one : OneAnswer 0 number-of-kinds.ps number-of-kinds.r number-of-reads.Post
-number-of-one κs a x y s t p q = p ∙ sym q
+pub number_of_one : OneAnswer 0 number-of-kinds.ps number-of-kinds.r number-of-reads.Post
+number_of_one κs a x y s t p q = p ∙ sym q
 
-pub refusal-of-one : OneAnswer 0 refusal-of-kinds.ps refusal-of-kinds.r refusal-of-reads.Post
-refusal-of-one κs a x y s t p q = p ∙ sym q
+pub refusal_of_one : OneAnswer 0 refusal-of-kinds.ps refusal-of-kinds.r refusal-of-reads.Post
+refusal_of_one κs a x y s t p q = p ∙ sym q
 
-pub passes-one : OneAnswer 0 passes-kinds.ps passes-kinds.r passes-reads.Post
-passes-one κs a x y s t p q = p ∙ sym q
+pub passes_one : OneAnswer 0 passes-kinds.ps passes-kinds.r passes-reads.Post
+passes_one κs a x y s t p q = p ∙ sym q
 
-pub check-one : OneAnswer 0 check-kinds.ps check-kinds.r check-reads.Post
-check-one κs a x y s t p q = p ∙ sym q
+pub check_one : OneAnswer 0 check-kinds.ps check-kinds.r check-reads.Post
+check_one κs a x y s t p q = p ∙ sym q

@@ -1,11 +1,11 @@
 -- Document 01, "Numbers of refusal": the refusals, their numbers, and the checks 1 to 5.
 use Rattle.std.specs.Prelude.{Bool, true, false, not, ℕ, ◌*◌, eqb, length}
 use Rattle.part.specs.Choice.{if◌then◌else◌}
-use Rattle.part.specs.Part.{page, rows, soundPart}
+use Rattle.part.specs.Part.{page, rows, sound_part}
 use Rattle.part.specs.declared.Geometry.{Geometry}
 use Rattle.buslog.specs.declared.Why.{Why}
 use Rattle.device.specs.Machine.{Machine}
-use Rattle.device.specs.Sound.{soundState}
+use Rattle.device.specs.Sound.{sound_state}
 use Rattle.device.specs.declared.State.{State}
 use Rattle.buslog.specs.declared.Why.TheVariants as why
 use Rattle.refusals.specs.declared.Refusal.{Refusal}
@@ -25,20 +25,20 @@ number_of BadLevel = 8
 number_of NoRoom = 9
 
 -- the refusal for each reason why the reading of a log ends
-abbrev pub refusalOf : Why → Refusal
-refusalOf why.End = Done
-refusalOf why.BadKind = BadKind
-refusalOf why.ShortBody = ShortBody
-refusalOf why.BadLevel = BadLevel
+abbrev pub refusal_of : Why → Refusal
+refusal_of why.End = Done
+refusal_of why.BadKind = BadKind
+refusal_of why.ShortBody = ShortBody
+refusal_of why.BadLevel = BadLevel
 
 -- 1 to 5 are checked once, in this order: the part, the lengths of cells, cache register and page counts, the state
-unfoldable pub checkOf : Geometry → State → ℕ → ℕ → ℕ → Refusal
-checkOf g s cells cache counts =
-    if not (soundPart g) then BadPart
+unfoldable pub check_of : Geometry → State → ℕ → ℕ → ℕ → Refusal
+check_of g s cells cache counts =
+    if not (sound_part g) then BadPart
     else if not (eqb cells (rows g * page g)) then BadCells
     else if not (eqb cache (page g)) then BadCache
     else if not (eqb counts (rows g)) then BadCounts
-    else if not (soundState g s) then BadState
+    else if not (sound_state g s) then BadState
     else Done
 
 -- nothing is refused
@@ -55,5 +55,5 @@ passed BadLevel = false
 passed NoRoom = false
 
 -- what is checked of a machine before any record
-abbrev pub checkedAs : Geometry → Machine → Refusal
-checkedAs g m = checkOf g m.state (length m.store.cells) (length m.store.cache) (length m.counts)
+abbrev pub checked_as : Geometry → Machine → Refusal
+checked_as g m = check_of g m.state (length m.store.cells) (length m.store.cache) (length m.counts)

@@ -1,6 +1,6 @@
 // The numbers of refusal, and the checks that are made once, before any record. Document 01, "Numbers of refusal".
 ghost use Rattle.std.specs.Prelude.{◌≡◌};
-ghost use Rattle.refusals.specs.Refusals.{refusalOf, checkOf, passed, number_of};
+ghost use Rattle.refusals.specs.Refusals.{refusal_of, check_of, passed, number_of};
 
 use buslog::Why;
 use device::State;
@@ -41,7 +41,7 @@ pub fn number_of(r: Refusal) -> u8
 
 // The refusal for a reason why the reading of a log ends.
 pub fn refusal_of(w: Why) -> Refusal
-    ensures { result ≡ refusalOf w }
+    ensures { result ≡ refusal_of w }
 {
     match w {
         Why::End => Refusal::Done,
@@ -71,7 +71,7 @@ pub fn passes(r: Refusal) -> bool
 
 // The checks 1 to 5, in their order, of a part, a state and the lengths of the lent memory.
 pub fn check(g: Geometry, s: State, cells: usize, cache: usize, counts: usize) -> Refusal
-    ensures { result ≡ checkOf g s cells cache counts }
+    ensures { result ≡ check_of g s cells cache counts }
 {
     if !g.sound() {
         return Refusal::BadPart;

@@ -30,8 +30,8 @@ use Rattle.registers.proofs.program_failed.Kinds as program-failed-kinds
 use Rattle.registers.proofs.reset_status.Reads as reset-status-reads
 use Rattle.registers.proofs.reset_status.Kinds as reset-status-kinds
 
-pub power-up-one : OneAnswer 0 power-up-kinds.ps power-up-kinds.r power-up-reads.Post
-power-up-one κs a x y s t p q = p ∙ sym q
+pub power_up_one : OneAnswer 0 power-up-kinds.ps power-up-kinds.r power-up-reads.Post
+power_up_one κs a x y s t p q = p ∙ sym q
 
 pub read_one : OneAnswer 0 read-kinds.ps read-kinds.r read-reads.Post
 read_one κs a x y s t p q = p ∙ sym q
@@ -39,35 +39,35 @@ read_one κs a x y s t p q = p ∙ sym q
 pub written_one : OneAnswer 0 written-kinds.ps written-kinds.r written-reads.Post
 written_one κs a x y s t p q = p ∙ sym q
 
-pub a0-mask-one : OneAnswer 0 a0-mask-kinds.ps a0-mask-kinds.r a0-mask-reads.Post
-a0-mask-one κs a x y s t p q = p ∙ sym q
+pub a0_mask_one : OneAnswer 0 a0-mask-kinds.ps a0-mask-kinds.r a0-mask-reads.Post
+a0_mask_one κs a x y s t p q = p ∙ sym q
 
-pub oip-one : OneAnswer 0 oip-kinds.ps oip-kinds.r oip-reads.Post
-oip-one κs a x y s t p q = p ∙ sym q
+pub oip_one : OneAnswer 0 oip-kinds.ps oip-kinds.r oip-reads.Post
+oip_one κs a x y s t p q = p ∙ sym q
 
-pub wel-one : OneAnswer 0 wel-kinds.ps wel-kinds.r wel-reads.Post
-wel-one κs a x y s t p q = p ∙ sym q
+pub wel_one : OneAnswer 0 wel-kinds.ps wel-kinds.r wel-reads.Post
+wel_one κs a x y s t p q = p ∙ sym q
 
-pub oip-set-one : OneAnswer 0 oip-set-kinds.ps oip-set-kinds.r oip-set-reads.Post
-oip-set-one κs a x y s t p q = p ∙ sym q
+pub oip_set_one : OneAnswer 0 oip-set-kinds.ps oip-set-kinds.r oip-set-reads.Post
+oip_set_one κs a x y s t p q = p ∙ sym q
 
-pub oip-cleared-one : OneAnswer 0 oip-cleared-kinds.ps oip-cleared-kinds.r oip-cleared-reads.Post
-oip-cleared-one κs a x y s t p q = p ∙ sym q
+pub oip_cleared_one : OneAnswer 0 oip-cleared-kinds.ps oip-cleared-kinds.r oip-cleared-reads.Post
+oip_cleared_one κs a x y s t p q = p ∙ sym q
 
-pub wel-set-one : OneAnswer 0 wel-set-kinds.ps wel-set-kinds.r wel-set-reads.Post
-wel-set-one κs a x y s t p q = p ∙ sym q
+pub wel_set_one : OneAnswer 0 wel-set-kinds.ps wel-set-kinds.r wel-set-reads.Post
+wel_set_one κs a x y s t p q = p ∙ sym q
 
-pub wel-cleared-one : OneAnswer 0 wel-cleared-kinds.ps wel-cleared-kinds.r wel-cleared-reads.Post
-wel-cleared-one κs a x y s t p q = p ∙ sym q
+pub wel_cleared_one : OneAnswer 0 wel-cleared-kinds.ps wel-cleared-kinds.r wel-cleared-reads.Post
+wel_cleared_one κs a x y s t p q = p ∙ sym q
 
-pub request-cleared-one : OneAnswer 0 request-cleared-kinds.ps request-cleared-kinds.r request-cleared-reads.Post
-request-cleared-one κs a x y s t p q = p ∙ sym q
+pub request_cleared_one : OneAnswer 0 request-cleared-kinds.ps request-cleared-kinds.r request-cleared-reads.Post
+request_cleared_one κs a x y s t p q = p ∙ sym q
 
-pub erase-failed-one : OneAnswer 0 erase-failed-kinds.ps erase-failed-kinds.r erase-failed-reads.Post
-erase-failed-one κs a x y s t p q = p ∙ sym q
+pub erase_failed_one : OneAnswer 0 erase-failed-kinds.ps erase-failed-kinds.r erase-failed-reads.Post
+erase_failed_one κs a x y s t p q = p ∙ sym q
 
-pub program-failed-one : OneAnswer 0 program-failed-kinds.ps program-failed-kinds.r program-failed-reads.Post
-program-failed-one κs a x y s t p q = p ∙ sym q
+pub program_failed_one : OneAnswer 0 program-failed-kinds.ps program-failed-kinds.r program-failed-reads.Post
+program_failed_one κs a x y s t p q = p ∙ sym q
 
-pub reset-status-one : OneAnswer 0 reset-status-kinds.ps reset-status-kinds.r reset-status-reads.Post
-reset-status-one κs a x y s t p q = p ∙ sym q
+pub reset_status_one : OneAnswer 0 reset-status-kinds.ps reset-status-kinds.r reset-status-reads.Post
+reset_status_one κs a x y s t p q = p ∙ sym q

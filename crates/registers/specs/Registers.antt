@@ -18,32 +18,32 @@ abbrev pub wel : ℕ → Bool
 wel c = eqb (c / 2 % 2) 1
 
 -- one bit set or cleared, the others as they were
-abbrev pub oipSet : ℕ → ℕ
-oipSet c = c / 2 * 2 + 1
+abbrev pub oip_set : ℕ → ℕ
+oip_set c = c / 2 * 2 + 1
 
-abbrev pub oipCleared : ℕ → ℕ
-oipCleared c = c / 2 * 2
+abbrev pub oip_cleared : ℕ → ℕ
+oip_cleared c = c / 2 * 2
 
-abbrev pub welSet : ℕ → ℕ
-welSet c = c / 4 * 4 + 2 + c % 2
+abbrev pub wel_set : ℕ → ℕ
+wel_set c = c / 4 * 4 + 2 + c % 2
 
-abbrev pub welCleared : ℕ → ℕ
-welCleared c = c / 4 * 4 + c % 2
+abbrev pub wel_cleared : ℕ → ℕ
+wel_cleared c = c / 4 * 4 + c % 2
 
 -- WEL and both fail bits cleared
-abbrev pub requestCleared : ℕ → ℕ
-requestCleared c = c / 16 * 16 + c % 2
+abbrev pub request_cleared : ℕ → ℕ
+request_cleared c = c / 16 * 16 + c % 2
 
 -- E_FAIL and P_FAIL set, where both are 0
-abbrev pub eFailSet : ℕ → ℕ
-eFailSet c = c + 4
+abbrev pub e_fail_set : ℕ → ℕ
+e_fail_set c = c + 4
 
-abbrev pub pFailSet : ℕ → ℕ
-pFailSet c = c + 8
+abbrev pub p_fail_set : ℕ → ℕ
+p_fail_set c = c + 8
 
 -- what a reset leaves: OIP, both fail bits and ECCS are 0, WEL is as it was
-abbrev pub resetStatus : ℕ → ℕ
-resetStatus c = c / 2 % 2 * 2
+abbrev pub reset_status : ℕ → ℕ
+reset_status c = c / 2 % 2 * 2
 
 -- ---- the write masks, and the values at power-up (C0h but for the OIP of the read that then begins)
 
@@ -53,17 +53,17 @@ mask_of First = 0xBC
 mask_of Second = 0xBE
 
 -- of a part
-abbrev pub a0Mask : Geometry → ℕ
-a0Mask g = mask_of g.stepping
+abbrev pub a0_mask : Geometry → ℕ
+a0_mask g = mask_of g.stepping
 
-abbrev pub b0Mask : ℕ
-b0Mask = 0x11
+abbrev pub b0_mask : ℕ
+b0_mask = 0x11
 
-abbrev pub d0Mask : ℕ
-d0Mask = 0x60
+abbrev pub d0_mask : ℕ
+d0_mask = 0x60
 
-abbrev pub atPowerUp : Registers
-atPowerUp = record { a0 = 0x38; b0 = 0x10; c0 = 0x00; d0 = 0x40 }
+abbrev pub at_power_up : Registers
+at_power_up = record { a0 = 0x38; b0 = 0x10; c0 = 0x00; d0 = 0x40 }
 
 -- ---- read and written by address
 
@@ -81,11 +81,11 @@ abbrev pub locked : Registers → Pins → Bool
 locked r p = eqb (r.a0 / 128) 1 && not p.wp
 
 -- written through its mask; a write to another address or to C0h does nothing, nor does one of A0h while it is locked
-unfoldable pub registerWritten : Geometry → Pins → ℕ → ℕ → Registers → Registers
-registerWritten g p a v r =
+unfoldable pub register_written : Geometry → Pins → ℕ → ℕ → Registers → Registers
+register_written g p a v r =
     record {
-      a0 = if eqb a 0xA0 && not (locked r p) then bit_and v (a0Mask g) else r.a0;
-      b0 = if eqb a 0xB0 then bit_and v b0Mask else r.b0;
+      a0 = if eqb a 0xA0 && not (locked r p) then bit_and v (a0_mask g) else r.a0;
+      b0 = if eqb a 0xB0 then bit_and v b0_mask else r.b0;
       c0 = r.c0;
-      d0 = if eqb a 0xD0 then bit_and v d0Mask else r.d0;
+      d0 = if eqb a 0xD0 then bit_and v d0_mask else r.d0;
     }

@@ -1,6 +1,6 @@
 // The registers A0h, B0h, C0h and D0h: read and written by address, and the bits of the status register. Document 01, "Registers".
 ghost use Rattle.std.specs.Prelude.{◌≡◌};
-ghost use Rattle.registers.specs.Registers.{oip, wel, oipSet, oipCleared, welSet, welCleared, requestCleared, eFailSet, pFailSet, resetStatus, a0Mask, atPowerUp, register, registerWritten, locked};
+ghost use Rattle.registers.specs.Registers.{oip, wel, oip_set, oip_cleared, wel_set, wel_cleared, request_cleared, e_fail_set, p_fail_set, reset_status, a0_mask, at_power_up, register, register_written, locked};
 
 use part::{Geometry, Stepping};
 
@@ -21,7 +21,7 @@ pub struct Pins {
 impl Registers {
     // The values at power-up, C0h but for the OIP of the read that then begins.
     pub fn at_power_up() -> Registers
-        ensures { result ≡ atPowerUp }
+        ensures { result ≡ at_power_up }
     {
         Registers {
             a0: 0x38,
@@ -53,7 +53,7 @@ impl Registers {
 
     // The register at an address written through its mask.
     pub fn written(self, g: Geometry, pins: Pins, at: u8, value: u8) -> Registers
-        ensures { result ≡ registerWritten g pins at value self }
+        ensures { result ≡ register_written g pins at value self }
     {
         match at {
             0xA0 => {
@@ -80,7 +80,7 @@ impl Registers {
 
 // The write mask of A0h, by the part's stepping.
 pub fn a0_mask(g: Geometry) -> u8
-    ensures { result ≡ a0Mask g }
+    ensures { result ≡ a0_mask g }
 {
     let s = g.stepping;
     match s {
@@ -103,52 +103,52 @@ pub fn wel(c: u8) -> bool
 }
 
 pub fn oip_set(c: u8) -> u8
-    ensures { result ≡ oipSet c }
+    ensures { result ≡ oip_set c }
 {
     c / 2 * 2 + 1
 }
 
 pub fn oip_cleared(c: u8) -> u8
-    ensures { result ≡ oipCleared c }
+    ensures { result ≡ oip_cleared c }
 {
     c / 2 * 2
 }
 
 pub fn wel_set(c: u8) -> u8
-    ensures { result ≡ welSet c }
+    ensures { result ≡ wel_set c }
 {
     c / 4 * 4 + 2 + c % 2
 }
 
 pub fn wel_cleared(c: u8) -> u8
-    ensures { result ≡ welCleared c }
+    ensures { result ≡ wel_cleared c }
 {
     c / 4 * 4 + c % 2
 }
 
 // A request is taken up: WEL and both fail bits are cleared.
 pub fn request_cleared(c: u8) -> u8
-    ensures { result ≡ requestCleared c }
+    ensures { result ≡ request_cleared c }
 {
     c / 16 * 16 + c % 2
 }
 
 // A request to erase, and one to program, has failed.
 pub fn erase_failed(c: u8) -> u8
-    ensures { result ≡ eFailSet (requestCleared c) }
+    ensures { result ≡ e_fail_set (request_cleared c) }
 {
     c / 16 * 16 + c % 2 + 4
 }
 
 pub fn program_failed(c: u8) -> u8
-    ensures { result ≡ pFailSet (requestCleared c) }
+    ensures { result ≡ p_fail_set (request_cleared c) }
 {
     c / 16 * 16 + c % 2 + 8
 }
 
 // What a reset leaves: WEL.
 pub fn reset_status(c: u8) -> u8
-    ensures { result ≡ resetStatus c }
+    ensures { result ≡ reset_status c }
 {
     c / 2 % 2 * 2
 }

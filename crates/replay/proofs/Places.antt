@@ -8,20 +8,20 @@ use Rattle.buslog.specs.Read.{front, next_of}
 use Rattle.buslog.specs.declared.Record.{Record}
 use Rattle.buslog.specs.declared.Next.{Next}
 use Rattle.buslog.specs.declared.Next.TheVariants.{Found}
-use Rattle.reader.specs.Reader.{after_of, metOf}
+use Rattle.reader.specs.Reader.{after_of, met_of}
 use Rattle.reader.specs.declared.Met.{Met}
-use Rattle.buslog.proofs.Logs.{front-found}
+use Rattle.buslog.proofs.Logs.{front_found}
 use Rattle.buslog.proofs.RoundTrip.{found_front}
 
 further : (log : List ℕ) (at : ℕ) (e : Record) (n : ℕ) → at ≤ length log → next_of log at ≡ Found e n → (at < n) × (n ≤ length log)
 unfolding next_of
 further log at e n h p =
     let f = found_front at (front (drop at log)) e n p in
-    let k : suc f.0 ≤ length log - at = rw (length-drop at log) at (front-found (drop at log) [] e f.0 f.1).0 in
+    let k : suc f.0 ≤ length log - at = rw (length-drop at log) at (front_found (drop at log) [] e f.0 f.1).0 in
     (omega (arith, f.2), omega (arith, f.2))
 
-pub met-further : (log : List ℕ) (at : ℕ) {m : Met} {e : Record} {n : ℕ} → at ≤ length log → m ≡ metOf log at → m.next ≡ Found e n → (at < m.place) × (m.place ≤ length log)
-met-further log at {m} {e} {n} h p q =
+pub met_further : (log : List ℕ) (at : ℕ) {m : Met} {e : Record} {n : ℕ} → at ≤ length log → m ≡ met_of log at → m.next ≡ Found e n → (at < m.place) × (m.place ≤ length log)
+met_further log at {m} {e} {n} h p q =
     let found : next_of log at ≡ Found e n = sym (ap (λ (k : Met). k.next) p) ∙ q in
     let there : m.place ≡ n = ap (λ (k : Met). k.place) p ∙ ap (λ (k : Next). after_of k at) found in
     let f = further log at e n h found in

@@ -1,6 +1,6 @@
 // The byte on DO for a byte shifted on DI. Document 01, "Instructions".
 ghost use Rattle.std.specs.Prelude.{◌≡◌};
-ghost use Rattle.reply.specs.Reply.{byteOut};
+ghost use Rattle.reply.specs.Reply.{byte_out};
 
 use part::Geometry;
 use registers::Registers;
@@ -8,7 +8,7 @@ use transfer::Bus;
 
 // The byte on DO for a byte shifted now: FFh wherever no answer is named.
 pub fn byte_out(g: Geometry, regs: Registers, bus: Bus, cache: &[u8]) -> u8
-    ensures { result ≡ byteOut g regs bus cache.now }
+    ensures { result ≡ byte_out g regs bus cache.now }
 {
     if !bus.body_heard() {
         return 0xFF;

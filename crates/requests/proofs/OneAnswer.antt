@@ -4,7 +4,7 @@ use mathlib.Core.Path.{◌∙◌, sym, ap}
 use Prim.Native.Nat.{ℕ}
 use Rattle.part.specs.OneAnswer.{OneAnswer, OneEnd}
 use Rattle.requests.specs.declared.Fate.{Fate}
-use Rattle.requests.specs.Requests.{counted, uncounted, countsAfter}
+use Rattle.requests.specs.Requests.{counted, uncounted, counts_after}
 use Rattle.requests.proofs.begins.Reads as begins-reads
 use Rattle.requests.proofs.begins.Kinds as begins-kinds
 use Rattle.requests.proofs.erase_fate.Reads as erase-fate-reads
@@ -18,24 +18,24 @@ use Rattle.requests.proofs.ask_program.Kinds as ask-program-kinds
 use Rattle.requests.proofs.ask_erase.Reads as ask-erase-reads
 use Rattle.requests.proofs.ask_erase.Kinds as ask-erase-kinds
 
-pub begins-one : OneAnswer 0 begins-kinds.ps begins-kinds.r begins-reads.Post
-begins-one κs a x y s t p q = p ∙ sym q
+pub begins_one : OneAnswer 0 begins-kinds.ps begins-kinds.r begins-reads.Post
+begins_one κs a x y s t p q = p ∙ sym q
 
-pub erase-fate-one : OneAnswer 0 erase-fate-kinds.ps erase-fate-kinds.r erase-fate-reads.Post
-erase-fate-one κs a x y s t p q = p ∙ sym q
+pub erase_fate_one : OneAnswer 0 erase-fate-kinds.ps erase-fate-kinds.r erase-fate-reads.Post
+erase_fate_one κs a x y s t p q = p ∙ sym q
 
-pub used-one : OneAnswer 1 used-kinds.ps used-kinds.r used-reads.Post
-used-one κs a x y s t p q = p ∙ sym q
+pub used_one : OneAnswer 1 used-kinds.ps used-kinds.r used-reads.Post
+used_one κs a x y s t p q = p ∙ sym q
 
-pub program-fate-one : OneAnswer 1 program-fate-kinds.ps program-fate-kinds.r program-fate-reads.Post
-program-fate-one κs a x y s t p q = p ∙ sym q
+pub program_fate_one : OneAnswer 1 program-fate-kinds.ps program-fate-kinds.r program-fate-reads.Post
+program_fate_one κs a x y s t p q = p ∙ sym q
 
-pub ask-program-one : OneEnd 1 ask-program-kinds.ps ask-program-kinds.r (List ℕ) (λ κs s. s.1.1.1.0.now) ask-program-reads.Post
-ask-program-one κs a x y s t p q =
+pub ask_program_one : OneEnd 1 ask-program-kinds.ps ask-program-kinds.r (List ℕ) (λ κs s. s.1.1.1.0.now) ask-program-reads.Post
+ask_program_one κs a x y s t p q =
     let e = p.0 ∙ sym q.0 in
-    (e, p.1 ∙ ap (λ (f : Fate). countsAfter f (counted a.1.1.0) a.1.1.1.0.now) e ∙ sym q.1)
+    (e, p.1 ∙ ap (λ (f : Fate). counts_after f (counted a.1.1.0) a.1.1.1.0.now) e ∙ sym q.1)
 
-pub ask-erase-one : OneEnd 1 ask-erase-kinds.ps ask-erase-kinds.r (List ℕ) (λ κs s. s.1.1.1.0.now) ask-erase-reads.Post
-ask-erase-one κs a x y s t p q =
+pub ask_erase_one : OneEnd 1 ask-erase-kinds.ps ask-erase-kinds.r (List ℕ) (λ κs s. s.1.1.1.0.now) ask-erase-reads.Post
+ask_erase_one κs a x y s t p q =
     let e = p.0 ∙ sym q.0 in
-    (e, p.1 ∙ ap (λ (f : Fate). countsAfter f (uncounted a.0 a.1.1.0) a.1.1.1.0.now) e ∙ sym q.1)
+    (e, p.1 ∙ ap (λ (f : Fate). counts_after f (uncounted a.0 a.1.1.0) a.1.1.1.0.now) e ∙ sym q.1)

@@ -21,20 +21,20 @@ abbrev pub barred : Geometry → ℕ → Row → Fate → Fate
 barred g a0 r rest = if not (inside g r) then ByRow else if protects g a0 (block g r) then ByProtection else rest
 
 -- how often the page of a row has been programmed since its block was erased
-abbrev pub usedOf : Row → List ℕ → ℕ
-usedOf r counts = get_or counts r.0 0
+abbrev pub used_of : Row → List ℕ → ℕ
+used_of r counts = get_or counts r.0 0
 
 -- 10h also fails if the count is 4 or above
-unfoldable pub programFate : Geometry → ℕ → Row → List ℕ → Fate
-programFate g a0 r counts = barred g a0 r (if leb 4 (usedOf r counts) then ByCount else Begins)
+unfoldable pub program_fate : Geometry → ℕ → Row → List ℕ → Fate
+program_fate g a0 r counts = barred g a0 r (if leb 4 (used_of r counts) then ByCount else Begins)
 
 -- D8h asks no more
-unfoldable pub eraseFate : Geometry → ℕ → Row → Fate
-eraseFate g a0 r = barred g a0 r Begins
+unfoldable pub erase_fate : Geometry → ℕ → Row → Fate
+erase_fate g a0 r = barred g a0 r Begins
 
 -- the count rises by 1
 abbrev pub counted : Row → List ℕ → List ℕ
-counted r counts = set counts r.0 (usedOf r counts + 1)
+counted r counts = set counts r.0 (used_of r counts + 1)
 
 -- the block's counts, K of them from the block's first page on, become 0
 abbrev pub uncounted : Geometry → Row → List ℕ → List ℕ
@@ -44,5 +44,5 @@ uncounted g r counts =
     take a counts ++ (replicate (length (take k (drop a counts))) 0 ++ drop (a + k) counts)
 
 -- the page counts after a request: changed only where it begins
-abbrev pub countsAfter : Fate → (List ℕ → List ℕ) → List ℕ → List ℕ
-countsAfter f change counts = if begins? f then change counts else counts
+abbrev pub counts_after : Fate → (List ℕ → List ℕ) → List ℕ → List ℕ
+counts_after f change counts = if begins? f then change counts else counts

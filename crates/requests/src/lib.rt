@@ -1,6 +1,6 @@
 // A request to program a page or to erase a block: what becomes of it, and the page counts. Document 01, "Instructions", 10h and D8h.
 ghost use Rattle.std.specs.Prelude.{◌≡◌, ℕ, ◌<◌, min};
-ghost use Rattle.requests.specs.Requests.{begins?, usedOf, programFate, eraseFate, counted, uncounted, countsAfter};
+ghost use Rattle.requests.specs.Requests.{begins?, used_of, program_fate, erase_fate, counted, uncounted, counts_after};
 
 use part::{Geometry, Row};
 
@@ -27,7 +27,7 @@ pub fn begins(f: Fate) -> bool
 
 // What becomes of an erase: its row may be outside the array, its block protected.
 pub fn erase_fate(g: Geometry, a0: u8, row: Row) -> Fate
-    ensures { result ≡ eraseFate g a0 row }
+    ensures { result ≡ erase_fate g a0 row }
 {
     if g.rows() <= part::wide_short(row.0) {
         return Fate::ByRow;
@@ -40,7 +40,7 @@ pub fn erase_fate(g: Geometry, a0: u8, row: Row) -> Fate
 
 // How often a page has been programmed since its block was erased; 0 where it has no count.
 pub fn used(row: Row, counts: &[u8]) -> u8
-    ensures { result ≡ usedOf row counts.now }
+    ensures { result ≡ used_of row counts.now }
 {
     let at = part::wide_short(row.0);
     if at < counts.len() {
@@ -51,7 +51,7 @@ pub fn used(row: Row, counts: &[u8]) -> u8
 
 // What becomes of a program: the same is asked, and then the count.
 pub fn program_fate(g: Geometry, a0: u8, row: Row, counts: &[u8]) -> Fate
-    ensures { result ≡ programFate g a0 row counts.now }
+    ensures { result ≡ program_fate g a0 row counts.now }
 {
     let f = erase_fate(g, a0, row);
     if !begins(f) {
@@ -65,7 +65,7 @@ pub fn program_fate(g: Geometry, a0: u8, row: Row, counts: &[u8]) -> Fate
 
 // A page's count rises by 1.
 fn count_up(row: Row, counts: &mut [u8])
-    requires { usedOf row counts.old < 4 }
+    requires { used_of row counts.old < 4 }
     ensures { counts.new ≡ counted row counts.old }
 {
     let at = part::wide_short(row.0);
@@ -99,7 +99,7 @@ fn uncount(g: Geometry, row: Row, counts: &mut [u8])
 
 // A program asked for: where it begins, the page's count rises.
 pub fn ask_program(g: Geometry, a0: u8, row: Row, counts: &mut [u8]) -> Fate
-    ensures { (result ≡ programFate g a0 row counts.old) × (counts.new ≡ countsAfter result (counted row) counts.old) }
+    ensures { (result ≡ program_fate g a0 row counts.old) × (counts.new ≡ counts_after result (counted row) counts.old) }
 {
     let f = program_fate(g, a0, row, &*counts);
     if !begins(f) {
@@ -111,7 +111,7 @@ pub fn ask_program(g: Geometry, a0: u8, row: Row, counts: &mut [u8]) -> Fate
 
 // An erase asked for: where it begins, the counts of the block become 0.
 pub fn ask_erase(g: Geometry, a0: u8, row: Row, counts: &mut [u8]) -> Fate
-    ensures { (result ≡ eraseFate g a0 row) × (counts.new ≡ countsAfter result (uncounted g row) counts.old) }
+    ensures { (result ≡ erase_fate g a0 row) × (counts.new ≡ counts_after result (uncounted g row) counts.old) }
 {
     let f = erase_fate(g, a0, row);
     if !begins(f) {

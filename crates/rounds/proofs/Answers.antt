@@ -22,16 +22,16 @@ answer AllEmpty = denied (λ e. let z : ◌≡◌ {A = ℕ} 0 1 = cc in omega ar
 answer BadKeeper = denied (λ e. let z : ◌≡◌ {A = ℕ} 0 1 = cc in omega arith) refl
 
 -- the refusal of a number
-abbrev refusedBy : ℕ → Refused
-refusedBy n = if eqb n 0 then Not else if eqb n 14 then BadCore else if eqb n 15 then QueueFull else if eqb n 16 then AllEmpty else BadKeeper
+abbrev refused_by : ℕ → Refused
+refused_by n = if eqb n 0 then Not else if eqb n 14 then BadCore else if eqb n 15 then QueueFull else if eqb n 16 then AllEmpty else BadKeeper
 
-number-told : (r : Refused) → refusedBy (number_of r) ≡ r
-number-told Not = refl
-number-told BadCore = refl
-number-told QueueFull = refl
-number-told AllEmpty = refl
-number-told BadKeeper = refl
+number_told : (r : Refused) → refused_by (number_of r) ≡ r
+number_told Not = refl
+number_told BadCore = refl
+number_told QueueFull = refl
+number_told AllEmpty = refl
+number_told BadKeeper = refl
 
 -- refusals with the same number are the same
-pub same-refusal : (r s : Refused) → number_of r ≡ number_of s → r ≡ s
-same-refusal r s e = sym (number-told r) ∙ ap refusedBy e ∙ number-told s
+pub same_refusal : (r s : Refused) → number_of r ≡ number_of s → r ≡ s
+same_refusal r s e = sym (number_told r) ∙ ap refused_by e ∙ number_told s

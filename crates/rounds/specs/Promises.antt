@@ -3,13 +3,13 @@ use Rattle.std.specs.Prelude.{List, [], ◌∷◌, ◌++◌, ◌≡◌, ℕ, ◌
 use Rattle.keeper.specs.declared.Keeper.{Keeper}
 use Rattle.keeper.specs.declared.Granted.{Granted}
 use Rattle.keeper.specs.declared.Refused.TheVariants.{Not}
-use Rattle.keeper.specs.Keeper.{waiting, newKeeper, grantOf}
+use Rattle.keeper.specs.Keeper.{waiting, new_keeper, grant_of}
 use Rattle.keeper.specs.Promises.{Good}
-use Rattle.rounds.specs.Rounds.{Call, adding, granting, calledAll, answeredAll, grants, allGiven, grantedTo, addedFor, onlyAdding}
+use Rattle.rounds.specs.Rounds.{Call, adding, granting, called_all, answered_all, grants, all_given, granted_to, added_for, only_adding}
 
 -- a good keeper stays good
 abbrev pub StaysGood : Type 0
-StaysGood = (k : Keeper) → Good k → (xs : List Call) → Good (calledAll k xs)
+StaysGood = (k : Keeper) → Good k → (xs : List Call) → Good (called_all k xs)
 
 -- ---- order, and once: what has been granted to a core, followed by what still waits in its queue, is what waited at the start, followed
 -- by what was added and not refused
@@ -17,7 +17,7 @@ StaysGood = (k : Keeper) → Good k → (xs : List Call) → Good (calledAll k x
 abbrev pub InOrder : Type 0
 InOrder =
     (k : Keeper) → Good k → (xs : List Call) (core : ℕ) →
-    grantedTo core (grants k xs) ++ waiting (calledAll k xs) core ≡ waiting k core ++ addedFor core k xs
+    granted_to core (grants k xs) ++ waiting (called_all k xs) core ≡ waiting k core ++ added_for core k xs
 
 -- ---- fairness
 
@@ -28,7 +28,7 @@ pub record Within (n core : ℕ) (gs : List Granted) : Type 0 where
   pub later : List Granted
   pub splits : gs ≡ earlier ++ (this ∷ later)
   pub soon : length earlier < n
-  pub none-refused : T (allGiven earlier)
+  pub none_refused : T (all_given earlier)
   pub given : this.refused ≡ Not
   pub whose : this.core ≡ core
 
@@ -40,7 +40,7 @@ WithinFour = (k : Keeper) → Good k → (xs : List Call) (core : ℕ) → core 
 pub record Comes (n core : ℕ) (before : List ℕ) (tag : ℕ) (gs : List Granted) : Type 0 where
   pub within : Within n core gs
   pub which : within.this.tag ≡ tag
-  pub behind : grantedTo core within.earlier ≡ before
+  pub behind : granted_to core within.earlier ≡ before
 
 -- a transfer with i before it in its core's queue is granted within the next 4(i + 1) grants asked
 abbrev pub InTime : Type 0
@@ -52,14 +52,14 @@ InTime =
 abbrev pub FourNeeded : Type 0
 FourNeeded =
     let xs = adding 0 10 ∷ adding 1 11 ∷ adding 2 12 ∷ adding 3 13 ∷ granting ∷ granting ∷ granting ∷ [] in
-    T (allGiven (grants newKeeper xs)) × (length (grants newKeeper xs) ≡ 3) × (waiting (calledAll newKeeper xs) 3 ≡ 13 ∷ [])
+    T (all_given (grants new_keeper xs)) × (length (grants new_keeper xs) ≡ 3) × (waiting (called_all new_keeper xs) 3 ≡ 13 ∷ [])
 
 -- ---- at first, from core 0: nothing waits for a core below the one that is granted first
 
 abbrev pub FirstFromZero : Type 0
 FirstFromZero =
-    (xs : List Call) → T (onlyAdding xs) → (grantOf (calledAll newKeeper xs)).refused ≡ Not → (d : ℕ) → d < (grantOf (calledAll newKeeper xs)).core →
-    waiting (calledAll newKeeper xs) d ≡ []
+    (xs : List Call) → T (only_adding xs) → (grant_of (called_all new_keeper xs)).refused ≡ Not → (d : ℕ) → d < (grant_of (called_all new_keeper xs)).core →
+    waiting (called_all new_keeper xs) d ≡ []
 
 -- ---- nothing else matters: what stands in a queue's other places, and the place where it begins, are never seen
 
@@ -72,4 +72,4 @@ pub record Alike (k j : Keeper) : Type 0 where
 abbrev pub Unseen : Type 0
 Unseen =
     (k j : Keeper) → Good k → Good j → Alike k j → (xs : List Call) →
-    (answeredAll k xs ≡ answeredAll j xs) × Alike (calledAll k xs) (calledAll j xs)
+    (answered_all k xs ≡ answered_all j xs) × Alike (called_all k xs) (called_all j xs)

@@ -4,7 +4,7 @@ use Rattle.part.specs.Choice.{if◌then◌else◌}
 use Rattle.keeper.specs.declared.Keeper.{Keeper}
 use Rattle.keeper.specs.declared.Added.{Added}
 use Rattle.keeper.specs.declared.Granted.{Granted}
-use Rattle.keeper.specs.Keeper.{number_of, addOf, grantOf}
+use Rattle.keeper.specs.Keeper.{number_of, add_of, grant_of}
 
 -- one call: a transfer to be added, or a grant asked
 pub data Call : Type 0 where
@@ -13,13 +13,13 @@ pub data Call : Type 0 where
 
 -- the keeper after a call, refused or not
 abbrev pub called : Keeper → Call → Keeper
-called k (adding core tag) = (addOf k core tag).keeper
-called k granting = (grantOf k).keeper
+called k (adding core tag) = (add_of k core tag).keeper
+called k granting = (grant_of k).keeper
 
 -- the keeper after all of some calls
-unfoldable pub calledAll : Keeper → List Call → Keeper
-calledAll k [] = k
-calledAll k (x ∷ xs) = calledAll (called k x) xs
+unfoldable pub called_all : Keeper → List Call → Keeper
+called_all k [] = k
+called_all k (x ∷ xs) = called_all (called k x) xs
 
 -- what a call answers beside the keeper: the number of its refusal, and of a grant the core and the tag
 pub record Answered : Type 0 where
@@ -28,50 +28,50 @@ pub record Answered : Type 0 where
   pub tag : ℕ
 
 abbrev pub answered : Keeper → Call → Answered
-answered k (adding core tag) = record { number = number_of (addOf k core tag).refused; core = 0; tag = 0 }
-answered k granting = record { number = number_of (grantOf k).refused; core = (grantOf k).core; tag = (grantOf k).tag }
+answered k (adding core tag) = record { number = number_of (add_of k core tag).refused; core = 0; tag = 0 }
+answered k granting = record { number = number_of (grant_of k).refused; core = (grant_of k).core; tag = (grant_of k).tag }
 
 -- what some calls answer, in their order
-unfoldable pub answeredAll : Keeper → List Call → List Answered
-answeredAll k [] = []
-answeredAll k (x ∷ xs) = answered k x ∷ answeredAll (called k x) xs
+unfoldable pub answered_all : Keeper → List Call → List Answered
+answered_all k [] = []
+answered_all k (x ∷ xs) = answered k x ∷ answered_all (called k x) xs
 
 -- the answers to the grants asked among some calls, in their order
 unfoldable pub grants : Keeper → List Call → List Granted
 grants k [] = []
-grants k (adding core tag ∷ xs) = grants (addOf k core tag).keeper xs
-grants k (granting ∷ xs) = grantOf k ∷ grants (grantOf k).keeper xs
+grants k (adding core tag ∷ xs) = grants (add_of k core tag).keeper xs
+grants k (granting ∷ xs) = grant_of k ∷ grants (grant_of k).keeper xs
 
 -- an answer that is not refused
-abbrev pub grantGiven : Granted → Bool
-grantGiven g = eqb (number_of g.refused) 0
+abbrev pub grant_given : Granted → Bool
+grant_given g = eqb (number_of g.refused) 0
 
 -- none of some answers is refused
-unfoldable pub allGiven : List Granted → Bool
-allGiven [] = true
-allGiven (g ∷ gs) = grantGiven g && allGiven gs
+unfoldable pub all_given : List Granted → Bool
+all_given [] = true
+all_given (g ∷ gs) = grant_given g && all_given gs
 
 -- what an answer grants to a core
-abbrev pub toCore : ℕ → Granted → List ℕ
-toCore core g = if grantGiven g && eqb g.core core then g.tag ∷ [] else []
+abbrev pub to_core : ℕ → Granted → List ℕ
+to_core core g = if grant_given g && eqb g.core core then g.tag ∷ [] else []
 
 -- what some answers grant to a core, in their order
-unfoldable pub grantedTo : ℕ → List Granted → List ℕ
-grantedTo core [] = []
-grantedTo core (g ∷ gs) = toCore core g ++ grantedTo core gs
+unfoldable pub granted_to : ℕ → List Granted → List ℕ
+granted_to core [] = []
+granted_to core (g ∷ gs) = to_core core g ++ granted_to core gs
 
 -- what the adding of a tag for core d adds for a core
-abbrev pub forCore : ℕ → ℕ → ℕ → Added → List ℕ
-forCore core d tag a = if eqb (number_of a.refused) 0 && eqb d core then tag ∷ [] else []
+abbrev pub for_core : ℕ → ℕ → ℕ → Added → List ℕ
+for_core core d tag a = if eqb (number_of a.refused) 0 && eqb d core then tag ∷ [] else []
 
 -- what some calls add for a core and is not refused, in its order
-unfoldable pub addedFor : ℕ → Keeper → List Call → List ℕ
-addedFor core k [] = []
-addedFor core k (adding d tag ∷ xs) = forCore core d tag (addOf k d tag) ++ addedFor core (addOf k d tag).keeper xs
-addedFor core k (granting ∷ xs) = addedFor core (grantOf k).keeper xs
+unfoldable pub added_for : ℕ → Keeper → List Call → List ℕ
+added_for core k [] = []
+added_for core k (adding d tag ∷ xs) = for_core core d tag (add_of k d tag) ++ added_for core (add_of k d tag).keeper xs
+added_for core k (granting ∷ xs) = added_for core (grant_of k).keeper xs
 
 -- no grant is asked
-unfoldable pub onlyAdding : List Call → Bool
-onlyAdding [] = true
-onlyAdding (adding core tag ∷ xs) = onlyAdding xs
-onlyAdding (granting ∷ xs) = false
+unfoldable pub only_adding : List Call → Bool
+only_adding [] = true
+only_adding (adding core tag ∷ xs) = only_adding xs
+only_adding (granting ∷ xs) = false

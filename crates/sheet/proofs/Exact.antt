@@ -3,21 +3,21 @@ use mathlib.Core.Bool.{Bool, true, false}
 use mathlib.Core.Logic.{◌↔◌}
 use mathlib.Core.Path.{◌≡◌, refl, sym, subst, ◌∙◌}
 use lib.Dec.{T}
-use Rattle.part.proofs.Choice.{T_true, true-T}
+use Rattle.part.proofs.Choice.{T_true, true_T}
 
 module _ {P : Type 0} (b : Bool) (exact : T b ↔ P) where
-  pub true-so : b ≡ true → P
-  true-so e = exact.0 (true-T b e)
+  pub true_so : b ≡ true → P
+  true_so e = exact.0 (true_T b e)
 
-  pub so-true : P → b ≡ true
-  so-true p = T_true b (exact.1 p)
+  pub so_true : P → b ≡ true
+  so_true p = T_true b (exact.1 p)
 
-  pub false-not : b ≡ false → ¬ P
-  false-not e p = subst T (sym (so-true p) ∙ e) tt
+  pub false_not : b ≡ false → ¬ P
+  false_not e p = subst T (sym (so_true p) ∙ e) tt
 
   pub no_false : ¬ P → b ≡ false
   no_false u = go b refl
     where
       go : (t : Bool) → b ≡ t → t ≡ false
-      go true e = absurd (u (true-so e))
+      go true e = absurd (u (true_so e))
       go false e = refl

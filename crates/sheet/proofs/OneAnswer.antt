@@ -9,8 +9,8 @@ use Rattle.sheet.proofs.made_number.Kinds as made-number-kinds
 use Rattle.sheet.proofs.make.Reads as make-reads
 use Rattle.sheet.proofs.make.Kinds as make-kinds
 
-pub made-number-one : OneAnswer 0 made-number-kinds.ps made-number-kinds.r made-number-reads.Post
-made-number-one κs a x y s t p q = p ∙ sym q
+pub made_number_one : OneAnswer 0 made-number-kinds.ps made-number-kinds.r made-number-reads.Post
+made_number_one κs a x y s t p q = p ∙ sym q
 
-pub make-one : OneEnd 1 make-kinds.ps make-kinds.r (List ℕ) (λ κs s. s.1.0.now) make-reads.Post
-make-one κs a x y s t p q = (ap (λ (e : MadeEnd). e.made) (p ∙ sym q), ap (λ (e : MadeEnd). e.memory) (p ∙ sym q))
+pub make_one : OneEnd 1 make-kinds.ps make-kinds.r (List ℕ) (λ κs s. s.1.0.now) make-reads.Post
+make_one κs a x y s t p q = (ap (λ (e : MadeEnd). e.made) (p ∙ sym q), ap (λ (e : MadeEnd). e.memory) (p ∙ sym q))

@@ -9,57 +9,57 @@ use lib.ListN.{length, length-append}
 use lib.Seq.{take_all, take_at, drop_at}
 use Rattle.part.specs.declared.Geometry.{Geometry}
 use Rattle.part.proofs.Choice.{and_l, and_r}
-use Rattle.crc.specs.Crc.{crcOf, allFed, byteFed, bitFed}
+use Rattle.crc.specs.Crc.{crc_of, all_fed, byte_fed, bit_fed}
 use Rattle.texts.specs.Text.{bytes as characters}
 use Rattle.sheet.specs.Numbers.{low_first, stretch}
-use Rattle.sheet.specs.Sheet.{Line, bytesIn, sheet, laid, sheetOf}
+use Rattle.sheet.specs.Sheet.{Line, bytes_in, sheet, laid, sheet_of}
 use Rattle.sheet.specs.Page.{page_of}
 use Rattle.sheet.specs.Promises.{Placed, PagesRight}
 use Rattle.sheet.specs.Cases.{KnownPages}
-use Rattle.sheet.proofs.Writing.{low-length}
-use Rattle.sheet.proofs.Pages.{sheet-length, page-length}
+use Rattle.sheet.proofs.Writing.{low_length}
+use Rattle.sheet.proofs.Pages.{sheet_length, page_length}
 
 -- lines follow one another from a place on, each with as many bytes as it says
 unfoldable follows : ℕ → List Line → Bool
 follows a [] = true
-follows a (l ∷ ls) = eqb l.place a && (eqb (length (bytesIn l.size l.content)) l.size && follows (a + l.size) ls)
+follows a (l ∷ ls) = eqb l.place a && (eqb (length (bytes_in l.size l.content)) l.size && follows (a + l.size) ls)
 
-sheet-follows : (g : Geometry) → T (follows 0 (sheet g))
-unfolding follows sheet bytesIn low_first characters
-sheet-follows g = tt
+sheet_follows : (g : Geometry) → T (follows 0 (sheet g))
+unfolding follows sheet bytes_in low_first characters
+sheet_follows g = tt
 
 -- such lines stand at their places, whatever is before and behind them
 placed : (a : ℕ) (before : List ℕ) (ls : List Line) (behind : List ℕ) → length before ≡ a → T (follows a ls) → Placed (before ++ (laid ls ++ behind)) ls
 unfolding follows laid
 placed a before [] behind e t = tt
 placed a before (l ∷ ls) behind e t =
-    let b = bytesIn l.size l.content in
+    let b = bytes_in l.size l.content in
     let p : l.place ≡ a = eqb→eq _ _ (and_l (eqb l.place a) _ t) in
     let u = and_r (eqb l.place a) _ t in
-    let s : length (bytesIn l.size l.content) ≡ l.size = eqb→eq _ _ (and_l (eqb (length b) l.size) _ u) in (
+    let s : length (bytes_in l.size l.content) ≡ l.size = eqb→eq _ _ (and_l (eqb (length b) l.size) _ u) in (
       rw (p, drop_at before (b ++ laid ls ++ behind) a e, append_assoc b (laid ls) behind, take_at b (laid ls ++ behind) l.size s),
       rw (append_assoc b (laid ls) behind, ← (append_assoc before b (laid ls ++ behind)))
           (placed (a + l.size) (before ++ b) ls behind (rw (length-append, e, s)) (and_r (eqb (length b) l.size) _ u)),
     )
 
 module _ (g : Geometry) where
-  table-first : stretch 0 254 (page_of g) ≡ sheetOf g
+  table_first : stretch 0 254 (page_of g) ≡ sheet_of g
   unfolding page_of
-  table-first = take_at (sheetOf g) (low_first 2 (crcOf (sheetOf g))) 254 (sheet-length g)
+  table_first = take_at (sheet_of g) (low_first 2 (crc_of (sheet_of g))) 254 (sheet_length g)
 
-  check-last : stretch 254 2 (page_of g) ≡ low_first 2 (crcOf (sheetOf g))
+  check_last : stretch 254 2 (page_of g) ≡ low_first 2 (crc_of (sheet_of g))
   unfolding page_of
-  check-last =
-      let c = low_first 2 (crcOf (sheetOf g)) in
-      rw (drop_at (sheetOf g) c 254 (sheet-length g)) (take_all 2 c (omega (arith, low-length 2 (crcOf (sheetOf g)))))
+  check_last =
+      let c = low_first 2 (crc_of (sheet_of g)) in
+      rw (drop_at (sheet_of g) c 254 (sheet_length g)) (take_all 2 c (omega (arith, low_length 2 (crc_of (sheet_of g)))))
 
-  lines-placed : Placed (page_of g) (sheet g)
+  lines_placed : Placed (page_of g) (sheet g)
   unfolding page_of
-  lines-placed = placed 0 [] (sheet g) (low_first 2 (crcOf (sheetOf g))) refl (sheet-follows g)
+  lines_placed = placed 0 [] (sheet g) (low_first 2 (crc_of (sheet_of g))) refl (sheet_follows g)
 
-pub pages-right : PagesRight
-pages-right g = record { long = page-length g; lines = lines-placed g; check = check-last g ∙ ap (λ (s : List ℕ). low_first 2 (crcOf s)) (sym (table-first g)) }
+pub pages_right : PagesRight
+pages_right g = record { long = page_length g; lines = lines_placed g; check = check_last g ∙ ap (λ (s : List ℕ). low_first 2 (crc_of s)) (sym (table_first g)) }
 
-pub known-pages : KnownPages
-unfolding page_of laid sheet bytesIn low_first characters allFed byteFed bitFed
-known-pages = (refl, refl)
+pub known_pages : KnownPages
+unfolding page_of laid sheet bytes_in low_first characters all_fed byte_fed bit_fed
+known_pages = (refl, refl)

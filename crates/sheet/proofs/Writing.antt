@@ -32,35 +32,35 @@ module _ {src l₀ l : List ℕ} {i : ℕ} (w : Written src l₀ l i) where
       }
 
   -- all of them
-  pub all-written : length src ≤ i → l ≡ src
-  all-written h =
+  pub all_written : length src ≤ i → l ≡ src
+  all_written h =
       let e : i ≡ length src = omega (arith, w.within) in
       let f : drop (length src) l₀ ≡ [] = ap (λ (n : ℕ). drop n l₀) (sym w.fits) ∙ drop-length l₀ in
       w.so_far ∙ rw (e, take-length src, f) (append-nil src)
 
 -- ---- the bytes of a number
 
-pub low-length : (k n : ℕ) → length (low_first k n) ≡ k
+pub low_length : (k n : ℕ) → length (low_first k n) ≡ k
 unfolding low_first
-low-length zero n = refl
-low-length (suc k) n = ap suc (low-length k (n / 256))
+low_length zero n = refl
+low_length (suc k) n = ap suc (low_length k (n / 256))
 
 low_byte : (m n : ℕ) → 0 < m → get_or (low_first m n) 0 0 ≡ n % 256
 unfolding low_first
 low_byte zero n h = absurd (omega arith)
 low_byte (suc m) n h = refl
 
-low-rest : (m n : ℕ) → drop 1 (low_first m n) ≡ low_first (m - 1) (n / 256)
+low_rest : (m n : ℕ) → drop 1 (low_first m n) ≡ low_first (m - 1) (n / 256)
 unfolding low_first
-low-rest zero n = refl
-low-rest (suc m) n = let e : suc m - 1 ≡ m = omega arith in rw e refl
+low_rest zero n = refl
+low_rest (suc m) n = let e : suc m - 1 ≡ m = omega arith in rw e refl
 
 -- from place i on they are those of what is left of the number
 module _ (k n i left : ℕ) (e : drop i (low_first k n) ≡ low_first (k - i) left) where
-  pub next-byte : i < k → get_or (low_first k n) i 0 ≡ left % 256
-  next-byte h = simp add-zero at (sym (get_or-drop i (low_first k n) 0 0)) ∙ ap (λ (l : List ℕ). get_or l 0 0) e ∙ low_byte (k - i) left (omega arith)
+  pub next_byte : i < k → get_or (low_first k n) i 0 ≡ left % 256
+  next_byte h = simp add-zero at (sym (get_or-drop i (low_first k n) 0 0)) ∙ ap (λ (l : List ℕ). get_or l 0 0) e ∙ low_byte (k - i) left (omega arith)
 
-  pub next-rest : drop (i + 1) (low_first k n) ≡ low_first (k - (i + 1)) (left / 256)
-  next-rest =
+  pub next_rest : drop (i + 1) (low_first k n) ≡ low_first (k - (i + 1)) (left / 256)
+  next_rest =
       let q : k - i - 1 ≡ k - (i + 1) = omega arith in
-      sym (drop-drop 1 i (low_first k n)) ∙ ap (λ (l : List ℕ). drop 1 l) e ∙ low-rest (k - i) left ∙ rw q refl
+      sym (drop-drop 1 i (low_first k n)) ∙ ap (λ (l : List ℕ). drop 1 l) e ∙ low_rest (k - i) left ∙ rw q refl

@@ -26,11 +26,11 @@ abbrev pub line : ℕ → ℕ → String → Content → Line
 line place size field content = record { place = place; size = size; field = field; content = content }
 
 -- the bytes of a field of so many: strings are padded with 20h, numbers have their low byte first
-unfoldable pub bytesIn : ℕ → Content → List ℕ
-bytesIn size (bytes bs) = bs
-bytesIn size (text s) = characters s ++ replicate (size - length (characters s)) 0x20
-bytesIn size (number n) = low_first size n
-bytesIn size zeros = replicate size 0
+unfoldable pub bytes_in : ℕ → Content → List ℕ
+bytes_in size (bytes bs) = bs
+bytes_in size (text s) = characters s ++ replicate (size - length (characters s)) 0x20
+bytes_in size (number n) = low_first size n
+bytes_in size zeros = replicate size 0
 
 -- the table
 unfoldable pub sheet : Geometry → List Line
@@ -76,12 +76,12 @@ sheet g =
 -- the bytes of lines, one after the other. (Promised of the table: each line stands at its place.)
 unfoldable pub laid : List Line → List ℕ
 laid [] = []
-laid (l ∷ ls) = bytesIn l.size l.content ++ laid ls
+laid (l ∷ ls) = bytes_in l.size l.content ++ laid ls
 
 -- bytes 0 to 253 of a part's page
-abbrev pub sheetOf : Geometry → List ℕ
-sheetOf g = laid (sheet g)
+abbrev pub sheet_of : Geometry → List ℕ
+sheet_of g = laid (sheet g)
 
 -- the same with 0 for the four numbers, which the code has as it stands and then writes them into
 unfoldable pub unnumbered : List ℕ
-unnumbered = sheetOf no_part
+unnumbered = sheet_of no_part

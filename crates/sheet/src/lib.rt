@@ -1,8 +1,8 @@
 // The parameter page of a part, and its maker. Document 02, item 1; the datasheet's section 10.
 ghost use Rattle.std.specs.Prelude.{◌≡◌, length};
 ghost use Rattle.sheet.specs.Numbers.{low_first};
-ghost use Rattle.sheet.specs.Sheet.{sheetOf, unnumbered};
-ghost use Rattle.sheet.specs.Page.{page_of, madeNumber, madeEnd, makeOf};
+ghost use Rattle.sheet.specs.Sheet.{sheet_of, unnumbered};
+ghost use Rattle.sheet.specs.Page.{page_of, made_number, made_end, make_of};
 
 use part::Geometry;
 
@@ -16,7 +16,7 @@ pub enum Made {
 
 // The number of refusal of what the maker answers.
 pub fn made_number(m: Made) -> u8
-    ensures { result ≡ madeNumber m }
+    ensures { result ≡ made_number m }
 {
     match m {
         Made::Laid => 0,
@@ -101,7 +101,7 @@ fn lay_table(sheet: &mut [u8])
 // Bytes 0 to 253: the table, and the part's D, S, K and N in their places.
 fn lay_sheet(g: Geometry, sheet: &mut [u8])
     requires { length sheet.old ≡ 254 }
-    ensures { sheet.new ≡ sheetOf g }
+    ensures { sheet.new ≡ sheet_of g }
 {
     lay_table(sheet);
     put(g.main, &mut sheet[80..84]);
@@ -122,7 +122,7 @@ fn lay_page(g: Geometry, page: &mut [u8])
 
 // A part's page at the front of lent memory; the bytes behind it stay. Refused, no byte is changed.
 pub fn make(g: Geometry, memory: &mut [u8]) -> Made
-    ensures { madeEnd result memory.new ≡ makeOf g memory.old }
+    ensures { made_end result memory.new ≡ make_of g memory.old }
 {
     if !g.sound() {
         return Made::BadPart;

@@ -43,35 +43,35 @@ pub record Lent : Type 0 where
 abbrev lent : List ℕ → List ℕ → List ℕ → List ℕ → Lent
 lent cells cache counts out = record { memory = memory cells cache counts; out = out }
 
-pub sleet-run-one : OneEnd 5 sleet-run-kinds.ps sleet-run-kinds.r Lent (λ κs s. lent s.1.1.1.0.now s.1.1.1.1.0.now s.1.1.1.1.1.0.now s.1.1.1.1.1.1.0.now) sleet-run-reads.Post
-sleet-run-one κs a x y s t p q = (ap (λ (e : CEnd). e.answer) (p ∙ sym q), ap (λ (e : CEnd). lent e.cells e.cache e.counts e.out) (p ∙ sym q))
+pub sleet_run_one : OneEnd 5 sleet-run-kinds.ps sleet-run-kinds.r Lent (λ κs s. lent s.1.1.1.0.now s.1.1.1.1.0.now s.1.1.1.1.1.0.now s.1.1.1.1.1.1.0.now) sleet-run-reads.Post
+sleet_run_one κs a x y s t p q = (ap (λ (e : CEnd). e.answer) (p ∙ sym q), ap (λ (e : CEnd). lent e.cells e.cache e.counts e.out) (p ∙ sym q))
 
-abbrev judgedBy : CJudgement → CJudged
-judgedBy j = record { answer = j.end.answer; orderly = j.orderly }
+abbrev judged_by : CJudgement → CJudged
+judged_by j = record { answer = j.end.answer; orderly = j.orderly }
 
-pub sleet-judge-one : OneEnd 5 sleet-judge-kinds.ps sleet-judge-kinds.r Lent (λ κs s. lent s.1.1.1.0.now s.1.1.1.1.0.now s.1.1.1.1.1.0.now s.1.1.1.1.1.1.0.now) sleet-judge-reads.Post
-sleet-judge-one κs a x y s t p q = (ap judgedBy (p ∙ sym q), ap (λ (j : CJudgement). lent j.end.cells j.end.cache j.end.counts j.end.out) (p ∙ sym q))
+pub sleet_judge_one : OneEnd 5 sleet-judge-kinds.ps sleet-judge-kinds.r Lent (λ κs s. lent s.1.1.1.0.now s.1.1.1.1.0.now s.1.1.1.1.1.0.now s.1.1.1.1.1.1.0.now) sleet-judge-reads.Post
+sleet_judge_one κs a x y s t p q = (ap judged_by (p ∙ sym q), ap (λ (j : CJudgement). lent j.end.cells j.end.cache j.end.counts j.end.out) (p ∙ sym q))
 
-pub sleet-transfer-one : OneEnd 5 sleet-transfer-kinds.ps sleet-transfer-kinds.r Lent (λ κs s. lent s.1.1.1.0.now s.1.1.1.1.0.now s.1.1.1.1.1.0.now s.1.1.1.1.1.1.0.now) sleet-transfer-reads.Post
-sleet-transfer-one κs a x y s t p q = (ap (λ (e : CEnd). e.answer) (p ∙ sym q), ap (λ (e : CEnd). lent e.cells e.cache e.counts e.out) (p ∙ sym q))
+pub sleet_transfer_one : OneEnd 5 sleet-transfer-kinds.ps sleet-transfer-kinds.r Lent (λ κs s. lent s.1.1.1.0.now s.1.1.1.1.0.now s.1.1.1.1.1.0.now s.1.1.1.1.1.1.0.now) sleet-transfer-reads.Post
+sleet_transfer_one κs a x y s t p q = (ap (λ (e : CEnd). e.answer) (p ∙ sym q), ap (λ (e : CEnd). lent e.cells e.cache e.counts e.out) (p ∙ sym q))
 
-pub sleet-shifts-one : OneEnd 5 sleet-shifts-kinds.ps sleet-shifts-kinds.r Lent (λ κs s. lent s.1.1.1.0.now s.1.1.1.1.0.now s.1.1.1.1.1.0.now s.1.1.1.1.1.1.0.now) sleet-shifts-reads.Post
-sleet-shifts-one κs a x y s t p q = (ap (λ (e : CEnd). e.answer) (p ∙ sym q), ap (λ (e : CEnd). lent e.cells e.cache e.counts e.out) (p ∙ sym q))
+pub sleet_shifts_one : OneEnd 5 sleet-shifts-kinds.ps sleet-shifts-kinds.r Lent (λ κs s. lent s.1.1.1.0.now s.1.1.1.1.0.now s.1.1.1.1.1.0.now s.1.1.1.1.1.1.0.now) sleet-shifts-reads.Post
+sleet_shifts_one κs a x y s t p q = (ap (λ (e : CEnd). e.answer) (p ∙ sym q), ap (λ (e : CEnd). lent e.cells e.cache e.counts e.out) (p ∙ sym q))
 
-pub sleet-shift-one : OneEnd 4 sleet-shift-kinds.ps sleet-shift-kinds.r Lent (λ κs s. lent s.1.1.1.0.now s.1.1.1.1.0.now s.1.1.1.1.1.0.now s.1.1.1.1.1.1.0.now) sleet-shift-reads.Post
-sleet-shift-one κs a x y s t p q = (ap (λ (e : CEnd). e.answer) (p ∙ sym q), ap (λ (e : CEnd). lent e.cells e.cache e.counts e.out) (p ∙ sym q))
+pub sleet_shift_one : OneEnd 4 sleet-shift-kinds.ps sleet-shift-kinds.r Lent (λ κs s. lent s.1.1.1.0.now s.1.1.1.1.0.now s.1.1.1.1.1.0.now s.1.1.1.1.1.1.0.now) sleet-shift-reads.Post
+sleet_shift_one κs a x y s t p q = (ap (λ (e : CEnd). e.answer) (p ∙ sym q), ap (λ (e : CEnd). lent e.cells e.cache e.counts e.out) (p ∙ sym q))
 
-pub sleet-select-one : OneEnd 3 sleet-select-kinds.ps sleet-select-kinds.r Memory (λ κs s. memory s.1.1.0.now s.1.1.1.0.now s.1.1.1.1.0.now) sleet-select-reads.Post
-sleet-select-one κs a x y s t p q = (ap (λ (e : CQuiet). e.answer) (p ∙ sym q), ap (λ (e : CQuiet). memory e.cells e.cache e.counts) (p ∙ sym q))
+pub sleet_select_one : OneEnd 3 sleet-select-kinds.ps sleet-select-kinds.r Memory (λ κs s. memory s.1.1.0.now s.1.1.1.0.now s.1.1.1.1.0.now) sleet-select-reads.Post
+sleet_select_one κs a x y s t p q = (ap (λ (e : CQuiet). e.answer) (p ∙ sym q), ap (λ (e : CQuiet). memory e.cells e.cache e.counts) (p ∙ sym q))
 
-pub sleet-deselect-one : OneEnd 3 sleet-deselect-kinds.ps sleet-deselect-kinds.r Memory (λ κs s. memory s.1.1.0.now s.1.1.1.0.now s.1.1.1.1.0.now) sleet-deselect-reads.Post
-sleet-deselect-one κs a x y s t p q = (ap (λ (e : CQuiet). e.answer) (p ∙ sym q), ap (λ (e : CQuiet). memory e.cells e.cache e.counts) (p ∙ sym q))
+pub sleet_deselect_one : OneEnd 3 sleet-deselect-kinds.ps sleet-deselect-kinds.r Memory (λ κs s. memory s.1.1.0.now s.1.1.1.0.now s.1.1.1.1.0.now) sleet-deselect-reads.Post
+sleet_deselect_one κs a x y s t p q = (ap (λ (e : CQuiet). e.answer) (p ∙ sym q), ap (λ (e : CQuiet). memory e.cells e.cache e.counts) (p ∙ sym q))
 
-pub sleet-work-one : OneEnd 3 sleet-work-kinds.ps sleet-work-kinds.r Memory (λ κs s. memory s.1.1.1.0.now s.1.1.1.1.0.now s.1.1.1.1.1.0.now) sleet-work-reads.Post
-sleet-work-one κs a x y s t p q = (ap (λ (e : CQuiet). e.answer) (p ∙ sym q), ap (λ (e : CQuiet). memory e.cells e.cache e.counts) (p ∙ sym q))
+pub sleet_work_one : OneEnd 3 sleet-work-kinds.ps sleet-work-kinds.r Memory (λ κs s. memory s.1.1.1.0.now s.1.1.1.1.0.now s.1.1.1.1.1.0.now) sleet-work-reads.Post
+sleet_work_one κs a x y s t p q = (ap (λ (e : CQuiet). e.answer) (p ∙ sym q), ap (λ (e : CQuiet). memory e.cells e.cache e.counts) (p ∙ sym q))
 
-pub sleet-level-one : OneEnd 3 sleet-level-kinds.ps sleet-level-kinds.r Memory (λ κs s. memory s.1.1.1.0.now s.1.1.1.1.0.now s.1.1.1.1.1.0.now) sleet-level-reads.Post
-sleet-level-one κs a x y s t p q = (ap (λ (e : CQuiet). e.answer) (p ∙ sym q), ap (λ (e : CQuiet). memory e.cells e.cache e.counts) (p ∙ sym q))
+pub sleet_level_one : OneEnd 3 sleet-level-kinds.ps sleet-level-kinds.r Memory (λ κs s. memory s.1.1.1.0.now s.1.1.1.1.0.now s.1.1.1.1.1.0.now) sleet-level-reads.Post
+sleet_level_one κs a x y s t p q = (ap (λ (e : CQuiet). e.answer) (p ∙ sym q), ap (λ (e : CQuiet). memory e.cells e.cache e.counts) (p ∙ sym q))
 
-pub sleet-power-one : OneEnd 3 sleet-power-kinds.ps sleet-power-kinds.r Memory (λ κs s. memory s.1.1.0.now s.1.1.1.0.now s.1.1.1.1.0.now) sleet-power-reads.Post
-sleet-power-one κs a x y s t p q = (ap (λ (e : CQuiet). e.answer) (p ∙ sym q), ap (λ (e : CQuiet). memory e.cells e.cache e.counts) (p ∙ sym q))
+pub sleet_power_one : OneEnd 3 sleet-power-kinds.ps sleet-power-kinds.r Memory (λ κs s. memory s.1.1.0.now s.1.1.1.0.now s.1.1.1.1.0.now) sleet-power-reads.Post
+sleet_power_one κs a x y s t p q = (ap (λ (e : CQuiet). e.answer) (p ∙ sym q), ap (λ (e : CQuiet). memory e.cells e.cache e.counts) (p ∙ sym q))

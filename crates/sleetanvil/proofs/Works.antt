@@ -5,18 +5,18 @@ use Rattle.buslog.specs.Log.{bytes_of}
 use Rattle.buslog.specs.declared.Record.TheVariants.{Units}
 use Rattle.device.specs.Machine.{machine}
 use Rattle.part_numbers.specs.Numbers.{part_of}
-use Rattle.face.specs.Face.{state_of, faceOf}
+use Rattle.face.specs.Face.{state_of, face_of}
 use Rattle.face.specs.declared.Told.{Told}
 use Rattle.face.specs.declared.Told.TheVariants.{Good, Bad}
 use Rattle.model.specs.Runs.{Outcome, shown}
-use Rattle.beside.proofs.Works.{work-one}
+use Rattle.beside.proofs.Works.{work_one}
 use Rattle.sleetanvil.specs.Promises.{WorkRecord}
-use Rattle.sleetanvil.specs.Runs.{shownAs, ranTold, faceRan, unheard, workedTold, workedOf}
+use Rattle.sleetanvil.specs.Runs.{shown_as, ran_told, face_ran, unheard, worked_told, worked_of}
 
-pub work-record : WorkRecord
-unfolding workedOf faceRan
-work-record g c n cells cache counts = go (state_of c)
+pub work_record : WorkRecord
+unfolding worked_of face_ran
+work_record g c n cells cache counts = go (state_of c)
   where
-    go : (x : Told) → workedTold g c x n cells cache counts ≡ unheard (ranTold g c x (bytes_of (Units n)) cells cache counts [])
-    go (Good s) = ap (λ (o : Outcome). unheard (shownAs (faceOf o.machine.state) (shown o []))) (sym (work-one (part_of g) (machine s cells cache counts) 0 n))
+    go : (x : Told) → worked_told g c x n cells cache counts ≡ unheard (ran_told g c x (bytes_of (Units n)) cells cache counts [])
+    go (Good s) = ap (λ (o : Outcome). unheard (shown_as (face_of o.machine.state) (shown o []))) (sym (work_one (part_of g) (machine s cells cache counts) 0 n))
     go Bad = refl

@@ -6,19 +6,19 @@ use Rattle.buslog.specs.declared.Record.{Record}
 use Rattle.device.specs.Machine.{machine}
 use Rattle.device.specs.Work.{unitwise}
 use Rattle.part_numbers.specs.Numbers.{part_of}
-use Rattle.face.specs.Face.{state_of, faceOf, noState}
+use Rattle.face.specs.Face.{state_of, face_of, no_state}
 use Rattle.part_numbers.specs.declared.CGeometry.{CGeometry}
 use Rattle.face.specs.declared.CState.{CState}
 use Rattle.face.specs.declared.CAnswer.{CAnswer}
 use Rattle.face.specs.declared.CJudged.{CJudged}
 use Rattle.face.specs.declared.Told.{Told}
 use Rattle.face.specs.declared.Told.TheVariants.{Good, Bad}
-use Rattle.refusals.specs.Refusals.{number_of, checkOf}
+use Rattle.refusals.specs.Refusals.{number_of, check_of}
 use Rattle.model.specs.Runs.{End, run_of, shown}
 use Rattle.walk.specs.declared.Answer.{Answer}
-use Rattle.beside.specs.Beside.{workOf}
+use Rattle.beside.specs.Beside.{work_of}
 use Rattle.whole.specs.Demand.{given}
-use Rattle.orderly.specs.Judge.{Judgement, judgementOf}
+use Rattle.orderly.specs.Judge.{Judgement, judgement_of}
 
 -- ---- what the caller sees
 
@@ -31,40 +31,40 @@ pub record CEnd : Type 0 where
   pub out : List ℕ
 
 -- the two together
-abbrev pub faceSeen : CAnswer → List ℕ → List ℕ → List ℕ → List ℕ → CEnd
-faceSeen a cells cache counts out = record { answer = a; cells = cells; cache = cache; counts = counts; out = out }
+abbrev pub face_seen : CAnswer → List ℕ → List ℕ → List ℕ → List ℕ → CEnd
+face_seen a cells cache counts out = record { answer = a; cells = cells; cache = cache; counts = counts; out = out }
 
 -- the model's answer in numbers, with the numbers of a state
 abbrev pub answer_of : CState → Answer → CAnswer
 answer_of c a = record { state = c; records = a.records; used = a.used; written = a.written; refusal = number_of a.refusal }
 
 -- the same of all that a run of the model leaves
-abbrev pub shownAs : CState → End → CEnd
-shownAs c e = faceSeen (answer_of c e.answer) e.cells e.cache e.counts e.out
+abbrev pub shown_as : CState → End → CEnd
+shown_as c e = face_seen (answer_of c e.answer) e.cells e.cache e.counts e.out
 
 -- ---- numbers that stand for no state
 
 -- 1 to 4 are checked as for any state, in their order, and then it is 5
-abbrev pub checkBad : Geometry → ℕ → ℕ → ℕ → ℕ
-checkBad g cells cache counts = number_of (checkOf g noState cells cache counts)
+abbrev pub check_bad : Geometry → ℕ → ℕ → ℕ → ℕ
+check_bad g cells cache counts = number_of (check_of g no_state cells cache counts)
 
 -- nothing done, and the state's numbers given back as they came
-abbrev pub faceNothing : ℕ → CState → CAnswer
-faceNothing refusal c = record { state = c; records = 0; used = 0; written = 0; refusal = refusal }
+abbrev pub face_nothing : ℕ → CState → CAnswer
+face_nothing refusal c = record { state = c; records = 0; used = 0; written = 0; refusal = refusal }
 
 -- ---- a run
 
 -- a state goes through the model; where there is none, nothing is done
-abbrev pub ranTold : CGeometry → CState → Told → List ℕ → List ℕ → List ℕ → List ℕ → List ℕ → CEnd
-ranTold g c (Good s) log cells cache counts out =
+abbrev pub ran_told : CGeometry → CState → Told → List ℕ → List ℕ → List ℕ → List ℕ → List ℕ → CEnd
+ran_told g c (Good s) log cells cache counts out =
     let e = shown (run_of (part_of g) (unitwise (part_of g)) (length out) log (machine s cells cache counts)) out in
-    shownAs (faceOf e.answer.state) e
-ranTold g c Bad log cells cache counts out =
-    faceSeen (faceNothing (checkBad (part_of g) (length cells) (length cache) (length counts)) c) cells cache counts out
+    shown_as (face_of e.answer.state) e
+ran_told g c Bad log cells cache counts out =
+    face_seen (face_nothing (check_bad (part_of g) (length cells) (length cache) (length counts)) c) cells cache counts out
 
 -- a run of a log, from the part and the state that the numbers stand for
-unfoldable pub faceRan : CGeometry → CState → List ℕ → List ℕ → List ℕ → List ℕ → List ℕ → CEnd
-faceRan g c log cells cache counts out = ranTold g c (state_of c) log cells cache counts out
+unfoldable pub face_ran : CGeometry → CState → List ℕ → List ℕ → List ℕ → List ℕ → List ℕ → CEnd
+face_ran g c log cells cache counts out = ran_told g c (state_of c) log cells cache counts out
 
 -- ---- an event that puts nothing out: the same without output
 
@@ -84,15 +84,15 @@ abbrev pub unheard : CEnd → CQuiet
 unheard e = quiet e.answer e.cells e.cache e.counts
 
 -- a run of the log with no output lent
-abbrev pub quietOf : CGeometry → CState → List ℕ → List ℕ → List ℕ → List ℕ → CQuiet
-quietOf g c log cells cache counts = unheard (faceRan g c log cells cache counts [])
+abbrev pub quiet_of : CGeometry → CState → List ℕ → List ℕ → List ℕ → List ℕ → CQuiet
+quiet_of g c log cells cache counts = unheard (face_ran g c log cells cache counts [])
 
 -- ---- bytes exchanged, with no log in between
 
 -- what a run leaves, where no log was lent: none of its bytes was used
-abbrev pub faceUnlogged : CEnd → CEnd
-faceUnlogged e =
-    faceSeen
+abbrev pub face_unlogged : CEnd → CEnd
+face_unlogged e =
+    face_seen
     (record { state = e.answer.state; records = e.answer.records; used = 0; written = e.answer.written; refusal = e.answer.refusal })
     e.cells
     e.cache
@@ -100,21 +100,21 @@ faceUnlogged e =
     e.out
 
 -- the run of the records
-abbrev pub exchangedOf : CGeometry → CState → List Record → List ℕ → List ℕ → List ℕ → List ℕ → CEnd
-exchangedOf g c es cells cache counts out = faceUnlogged (faceRan g c (written es) cells cache counts out)
+abbrev pub exchanged_of : CGeometry → CState → List Record → List ℕ → List ℕ → List ℕ → List ℕ → CEnd
+exchanged_of g c es cells cache counts out = face_unlogged (face_ran g c (written es) cells cache counts out)
 
 -- ---- work of any number of units
 
 -- a state works; where there is none, nothing is done
-abbrev pub workedTold : CGeometry → CState → Told → ℕ → List ℕ → List ℕ → List ℕ → CQuiet
-workedTold g c (Good s) n cells cache counts =
-    let e = shown (workOf (part_of g) (unitwise (part_of g)) n (machine s cells cache counts)) [] in
-    unheard (shownAs (faceOf e.answer.state) e)
-workedTold g c Bad n cells cache counts = quiet (faceNothing (checkBad (part_of g) (length cells) (length cache) (length counts)) c) cells cache counts
+abbrev pub worked_told : CGeometry → CState → Told → ℕ → List ℕ → List ℕ → List ℕ → CQuiet
+worked_told g c (Good s) n cells cache counts =
+    let e = shown (work_of (part_of g) (unitwise (part_of g)) n (machine s cells cache counts)) [] in
+    unheard (shown_as (face_of e.answer.state) e)
+worked_told g c Bad n cells cache counts = quiet (face_nothing (check_bad (part_of g) (length cells) (length cache) (length counts)) c) cells cache counts
 
 -- from the part and the state that the numbers stand for
-unfoldable pub workedOf : CGeometry → CState → ℕ → List ℕ → List ℕ → List ℕ → CQuiet
-workedOf g c n cells cache counts = workedTold g c (state_of c) n cells cache counts
+unfoldable pub worked_of : CGeometry → CState → ℕ → List ℕ → List ℕ → List ℕ → CQuiet
+worked_of g c n cells cache counts = worked_told g c (state_of c) n cells cache counts
 
 -- ---- a run judged
 
@@ -124,25 +124,25 @@ pub record CJudgement : Type 0 where
   pub orderly : Bool
 
 -- the two together
-abbrev pub faceJudged : CJudged → List ℕ → List ℕ → List ℕ → List ℕ → CJudgement
-faceJudged r cells cache counts out = record { end = faceSeen r.answer cells cache counts out; orderly = r.orderly }
+abbrev pub face_judged : CJudged → List ℕ → List ℕ → List ℕ → List ℕ → CJudgement
+face_judged r cells cache counts out = record { end = face_seen r.answer cells cache counts out; orderly = r.orderly }
 
 -- the judgement of the model's run in numbers, with the numbers of a state
-abbrev pub judgedAs : CState → Judgement → CJudgement
-judgedAs c j = record { end = shownAs c j.end; orderly = j.orderly }
+abbrev pub judged_as : CState → Judgement → CJudgement
+judged_as c j = record { end = shown_as c j.end; orderly = j.orderly }
 
 -- a state's run is judged; where there is no state, nothing is done, and that is not orderly
-abbrev pub judgedTold : CGeometry → CState → Told → List ℕ → List ℕ → List ℕ → List ℕ → List ℕ → CJudgement
-judgedTold g c (Good s) log cells cache counts out =
-    let j = judgementOf (given (part_of g) s log cells cache counts out) in
-    judgedAs (faceOf j.end.answer.state) j
-judgedTold g c Bad log cells cache counts out = record { end = ranTold g c Bad log cells cache counts out; orderly = false }
+abbrev pub judged_told : CGeometry → CState → Told → List ℕ → List ℕ → List ℕ → List ℕ → List ℕ → CJudgement
+judged_told g c (Good s) log cells cache counts out =
+    let j = judgement_of (given (part_of g) s log cells cache counts out) in
+    judged_as (face_of j.end.answer.state) j
+judged_told g c Bad log cells cache counts out = record { end = ran_told g c Bad log cells cache counts out; orderly = false }
 
 -- a run of a log, judged
-unfoldable pub judgedOf : CGeometry → CState → List ℕ → List ℕ → List ℕ → List ℕ → List ℕ → CJudgement
-judgedOf g c log cells cache counts out = judgedTold g c (state_of c) log cells cache counts out
+unfoldable pub judged_of : CGeometry → CState → List ℕ → List ℕ → List ℕ → List ℕ → List ℕ → CJudgement
+judged_of g c log cells cache counts out = judged_told g c (state_of c) log cells cache counts out
 
 -- the code judges the run of a state that stands in for none, and puts the test right
-abbrev pub orderlyOf : Told → Bool → Bool
-orderlyOf (Good s) ok = ok
-orderlyOf Bad ok = false
+abbrev pub orderly_of : Told → Bool → Bool
+orderly_of (Good s) ok = ok
+orderly_of Bad ok = false

@@ -24,11 +24,11 @@ lent cells bits out = record { cells = cells; bits = bits; out = out }
 abbrev lent_of : End → Lent
 lent_of e = lent e.cells e.bits e.out
 
-pub number-one : OneAnswer 0 number-kinds.ps number-kinds.r number-reads.Post
-number-one κs a x y s t p q = p ∙ sym q
+pub number_one : OneAnswer 0 number-kinds.ps number-kinds.r number-reads.Post
+number_one κs a x y s t p q = p ∙ sym q
 
-pub run-one : OneEnd 4 run-kinds.ps run-kinds.r Lent (λ κs s. lent s.1.1.0.now s.1.1.1.0.now s.1.1.1.1.0.now) run-reads.Post
-run-one κs a x y s t p q = (ap (λ (e : End). e.answer) (p ∙ sym q), ap lent_of (p ∙ sym q))
+pub run_one : OneEnd 4 run-kinds.ps run-kinds.r Lent (λ κs s. lent s.1.1.0.now s.1.1.1.0.now s.1.1.1.1.0.now) run-reads.Post
+run_one κs a x y s t p q = (ap (λ (e : End). e.answer) (p ∙ sym q), ap lent_of (p ∙ sym q))
 
-pub command-one : OneEnd 3 command-kinds.ps command-kinds.r Lent (λ κs s. lent s.1.1.1.1.0.now s.1.1.1.1.1.0.now s.1.1.1.1.1.1.0.now) command-reads.Post
-command-one κs a x y s t p q = (ap (λ (e : End). e.answer) (p ∙ sym q), ap lent_of (p ∙ sym q))
+pub command_one : OneEnd 3 command-kinds.ps command-kinds.r Lent (λ κs s. lent s.1.1.1.1.0.now s.1.1.1.1.1.0.now s.1.1.1.1.1.1.0.now) command-reads.Post
+command_one κs a x y s t p q = (ap (λ (e : End). e.answer) (p ∙ sym q), ap lent_of (p ∙ sym q))

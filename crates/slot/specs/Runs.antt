@@ -6,7 +6,7 @@ use Rattle.cardlog.specs.Log.{written}
 use Rattle.cardlog.specs.Read.{Parsed, parse}
 use Rattle.cardlog.specs.declared.Record.{Record}
 use Rattle.card.specs.Card.{Card, step, run, takes, puts}
-use Rattle.slot.specs.Turns.{refusalOf, checkedAs}
+use Rattle.slot.specs.Turns.{refusal_of, checked_as}
 use Rattle.slot.specs.declared.Answer.{Answer}
 use Rattle.slot.specs.declared.Refusal.{Refusal}
 use Rattle.slot.specs.declared.Refusal.TheVariants.{Done, BadCells, BadBits, BadKind, ShortBody, NoRoom}
@@ -24,9 +24,9 @@ fitting room [] = []
 fitting room (e ∷ es) = if ltb room (takes e) then [] else e ∷ fitting (room - takes e) es
 
 -- the bytes that records put out, one after another
-unfoldable pub bytesOut : Card → List Record → List ℕ
-bytesOut c [] = []
-bytesOut c (e ∷ es) = puts c e ++ bytesOut (step c e) es
+unfoldable pub bytes_out : Card → List Record → List ℕ
+bytes_out c [] = []
+bytes_out c (e ∷ es) = puts c e ++ bytes_out (step c e) es
 
 -- ---- the run
 
@@ -40,11 +40,11 @@ pub record Outcome : Type 0 where
 -- exactly the records es done, and stopped with a refusal: the card after them, their number, their bytes in the log, what they put out.
 -- "Nothing done" is this for no records; "stops before it" is this for the records before it.
 abbrev pub did : Card → Refusal → List Record → Outcome
-did c why es = record { refusal = why; card = run c es; records = length es; used = length (written es); output = bytesOut c es }
+did c why es = record { refusal = why; card = run c es; records = length es; used = length (written es); output = bytes_out c es }
 
 -- the records of a log that was read, as far as the room goes
-unfoldable pub ranOf : ℕ → Parsed → Card → Outcome
-ranOf room p c = did c (if ltb room (room_for p.records) then NoRoom else refusalOf p.why) (fitting room p.records)
+unfoldable pub ran_of : ℕ → Parsed → Card → Outcome
+ran_of room p c = did c (if ltb room (room_for p.records) then NoRoom else refusal_of p.why) (fitting room p.records)
 
 -- what the checks let through
 abbrev pub only_if : Refusal → Outcome → Outcome → Outcome
@@ -57,7 +57,7 @@ only_if NoRoom o p = p
 
 -- the checks, and then the log
 unfoldable pub run_of : ℕ → List ℕ → Card → Outcome
-run_of room log c = only_if (checkedAs c) (ranOf room (parse log) c) (did c (checkedAs c) [])
+run_of room log c = only_if (checked_as c) (ran_of room (parse log) c) (did c (checked_as c) [])
 
 -- one run, and another behind it
 abbrev pub and_then : Outcome → Outcome → Outcome

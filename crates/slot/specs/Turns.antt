@@ -25,19 +25,19 @@ number_of ShortBody = 7
 number_of NoRoom = 9
 
 -- the refusal for each reason to stop
-abbrev pub refusalOf : Why → Refusal
-refusalOf why.End = Done
-refusalOf why.BadKind = BadKind
-refusalOf why.ShortBody = ShortBody
+abbrev pub refusal_of : Why → Refusal
+refusal_of why.End = Done
+refusal_of why.BadKind = BadKind
+refusal_of why.ShortBody = ShortBody
 
 -- ---- the checks
 
 -- 17, cells not 1,024 bytes; 18, protect bits not 128 bytes, after 17
-unfoldable pub checkOf : ℕ → ℕ → Refusal
-checkOf cells bits = if not (eqb cells 1024) then BadCells else if not (eqb bits 128) then BadBits else Done
+unfoldable pub check_of : ℕ → ℕ → Refusal
+check_of cells bits = if not (eqb cells 1024) then BadCells else if not (eqb bits 128) then BadBits else Done
 
-abbrev pub checkedAs : Card → Refusal
-checkedAs c = checkOf (length c.cells) (length c.bits)
+abbrev pub checked_as : Card → Refusal
+checked_as c = check_of (length c.cells) (length c.bits)
 
 -- they hold
 pub record Fits (c : Card) : Type 0 where
@@ -77,13 +77,13 @@ abbrev pub turned : Went → Card → List ℕ → Turned
 turned r c out = record { went = r; card = c; out = out }
 
 -- the stage then: a run that goes off keeps its own
-abbrev pub stageThen : Walk → Went → Stage
-stageThen w (On x) = x.stage
-stageThen w (Off r) = w.stage
+abbrev pub stage_then : Walk → Went → Stage
+stage_then w (On x) = x.stage
+stage_then w (Off r) = w.stage
 
 -- 6 and 7 where there is no record; 9 where its answer has no room; else it is done, and its answer stands behind the bytes written
 unfoldable pub turn_of : Walk → Next → Card → List ℕ → Turned
-turn_of w (Stop y) c out = turned (Off (refusalOf y)) c out
+turn_of w (Stop y) c out = turned (Off (refusal_of y)) c out
 turn_of w (Found e place) c out =
     let c₁ = step c e in
     if ltb (length out - w.written) (takes e) then turned (Off NoRoom) c out

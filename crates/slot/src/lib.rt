@@ -5,8 +5,8 @@ ghost use Rattle.cardlog.specs.Log.{bytes_of};
 ghost use Rattle.cardlog.specs.Read.{next_of, parse};
 ghost use Rattle.cardlog.specs.declared.Record.TheVariants.{Sent};
 ghost use Rattle.card.specs.Card.{card, step, takes, puts};
-ghost use Rattle.slot.specs.Turns.{number_of, refusalOf, start_of, answered, Fits, Stands, turned, stageThen, turn_of};
-ghost use Rattle.slot.specs.Runs.{ranOf, run_of, seen, shown};
+ghost use Rattle.slot.specs.Turns.{number_of, refusal_of, start_of, answered, Fits, Stands, turned, stage_then, turn_of};
+ghost use Rattle.slot.specs.Runs.{ran_of, run_of, seen, shown};
 
 use card::Stage;
 use cardlog::{Next, Record, Why};
@@ -64,7 +64,7 @@ pub fn number(r: Refusal) -> u8
 
 // The refusal for a reason to stop.
 fn refusal_of(why: Why) -> Refusal
-    ensures { result ≡ refusalOf why }
+    ensures { result ≡ refusal_of why }
 {
     match why {
         Why::End => Refusal::Done,
@@ -138,7 +138,7 @@ fn turn(
 // One turn of a run: the record at its place is done, if there is one and its answer has room.
 fn onward(w: Walk, log: &[u8], cells: &mut [u8], bits: &mut [u8], out: &mut [u8]) -> Went
     requires { (Fits (card w.stage cells.old bits.old)) × (Stands w log.now out.old) }
-    ensures { turned result (card (stageThen w result) cells.new bits.new) out.new
+    ensures { turned result (card (stage_then w result) cells.new bits.new) out.new
         ≡ turn_of w (next_of log.now w.at) (card w.stage cells.old bits.old) out.old }
 {
     match cardlog::next_at(log, w.at) {
@@ -166,7 +166,7 @@ fn onward(w: Walk, log: &[u8], cells: &mut [u8], bits: &mut [u8], out: &mut [u8]
 fn go(stage: Stage, log: &[u8], cells: &mut [u8], bits: &mut [u8], out: &mut [u8]) -> Answer
     requires { Fits (card stage cells.old bits.old) }
     ensures { seen result cells.new bits.new out.new
-        ≡ shown (ranOf (length out.old) (parse log.now) (card stage cells.old bits.old)) out.old }
+        ≡ shown (ran_of (length out.old) (parse log.now) (card stage cells.old bits.old)) out.old }
 {
     let mut w = Walk::start(stage);
     loop {

@@ -7,8 +7,8 @@ use native.Mathlib.Omega.{arith}
 use lib.Dec.{ltb}
 use borrow.Author.Tests.{ltb-true, ltb-false, lt-ltb}
 
-pub div-ltb : (a p k : ℕ) → 0 < p → ltb (a / p) k ≡ ltb a (k * p)
-div-ltb a p k h = go (ltb a (k * p)) refl
+pub div_ltb : (a p k : ℕ) → 0 < p → ltb (a / p) k ≡ ltb a (k * p)
+div_ltb a p k h = go (ltb a (k * p)) refl
   where
     go : (b : Bool) → ltb a (k * p) ≡ b → ltb (a / p) k ≡ b
     go true e = lt-ltb (a / p) k ((div-lt_iff_lt-mul h).1 (ltb-true a (k * p) e))

@@ -10,14 +10,14 @@ use Rattle.soundness.proofs.work_sound.Kinds as work-sound-kinds
 use Rattle.soundness.proofs.calm.Reads as calm-reads
 use Rattle.soundness.proofs.calm.Kinds as calm-kinds
 
-pub registers-sound-one : OneAnswer 0 registers-sound-kinds.ps registers-sound-kinds.r registers-sound-reads.Post
-registers-sound-one κs a x y s t p q = p ∙ sym q
+pub registers_sound_one : OneAnswer 0 registers-sound-kinds.ps registers-sound-kinds.r registers-sound-reads.Post
+registers_sound_one κs a x y s t p q = p ∙ sym q
 
-pub transfer-sound-one : OneAnswer 0 transfer-sound-kinds.ps transfer-sound-kinds.r transfer-sound-reads.Post
-transfer-sound-one κs a x y s t p q = p ∙ sym q
+pub transfer_sound_one : OneAnswer 0 transfer-sound-kinds.ps transfer-sound-kinds.r transfer-sound-reads.Post
+transfer_sound_one κs a x y s t p q = p ∙ sym q
 
-pub work-sound-one : OneAnswer 0 work-sound-kinds.ps work-sound-kinds.r work-sound-reads.Post
-work-sound-one κs a x y s t p q = p ∙ sym q
+pub work_sound_one : OneAnswer 0 work-sound-kinds.ps work-sound-kinds.r work-sound-reads.Post
+work_sound_one κs a x y s t p q = p ∙ sym q
 
-pub calm-one : OneAnswer 0 calm-kinds.ps calm-kinds.r calm-reads.Post
-calm-one κs a x y s t p q = p ∙ sym q
+pub calm_one : OneAnswer 0 calm-kinds.ps calm-kinds.r calm-reads.Post
+calm_one κs a x y s t p q = p ∙ sym q

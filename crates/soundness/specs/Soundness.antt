@@ -2,9 +2,9 @@
 use Rattle.std.specs.Prelude.{Bool, true, not, ◌&&◌, ◌||◌, ◌≡◌, ℕ, ◌/◌, leb, ltb, eqb}
 use Rattle.std.specs.Int.Bits.{bit_and}
 use Rattle.part.specs.declared.Geometry.{Geometry}
-use Rattle.registers.specs.Registers.{oip, a0Mask, b0Mask, d0Mask}
+use Rattle.registers.specs.Registers.{oip, a0_mask, b0_mask, d0_mask}
 use Rattle.registers.specs.declared.Registers.{Registers}
-use Rattle.codes.specs.Codes.{noByte}
+use Rattle.codes.specs.Codes.{no_byte}
 use Rattle.transfer.specs.Transfer.{is}
 use Rattle.transfer.specs.declared.Transfer.{Transfer}
 use Rattle.array.specs.Jobs.{length_of, inside, Going}
@@ -34,8 +34,8 @@ WorkSound g Idle = Unit {0}
 WorkSound g (Busy j i) = Going g j i
 
 -- the instruction is 0Fh, 9Fh or FFh, or is being ignored
-abbrev pub letIn : Transfer → Bool
-letIn t = is t 0x0F || is t 0x9F || is t 0xFF || is t noByte
+abbrev pub let_in : Transfer → Bool
+let_in t = is t 0x0F || is t 0x9F || is t 0xFF || is t no_byte
 
 -- ---- the same as tests
 
@@ -44,16 +44,16 @@ abbrev pub within : ℕ → ℕ → Bool
 within mask v = eqb (bit_and v mask) v
 
 -- bits 7 to 4 of C0h are as they may be
-abbrev pub highSound : ℕ → Bool
-highSound h = eqb h 0
+abbrev pub high_sound : ℕ → Bool
+high_sound h = eqb h 0
 
 -- A0h, B0h and D0h are within their masks, and the high bits of C0h are as they may be
-abbrev pub registersSound : Geometry → Registers → Bool
-registersSound g r = within (a0Mask g) r.a0 && within b0Mask r.b0 && within d0Mask r.d0 && highSound (r.c0 / 16)
+abbrev pub registers_sound : Geometry → Registers → Bool
+registers_sound g r = within (a0_mask g) r.a0 && within b0_mask r.b0 && within d0_mask r.d0 && high_sound (r.c0 / 16)
 
 -- the count is at most 5, the next column at most 4,096
-abbrev pub transferSound : Transfer → Bool
-transferSound t = leb t.count 5 && leb t.column.0 4096
+abbrev pub transfer_sound : Transfer → Bool
+transfer_sound t = leb t.count 5 && leb t.column.0 4096
 
 -- for program and erase the row is in the array
 abbrev pub in_array : Geometry → Job → Bool
@@ -63,10 +63,10 @@ in_array g (Erase r) = inside g r
 in_array g Restart = true
 
 -- OIP is 1 exactly when an operation is in progress, and it is sound
-abbrev pub workSound : Geometry → ℕ → Work → Bool
-workSound g c Idle = not (oip c)
-workSound g c (Busy j i) = oip c && ltb i (length_of g j) && in_array g j
+abbrev pub work_sound : Geometry → ℕ → Work → Bool
+work_sound g c Idle = not (oip c)
+work_sound g c (Busy j i) = oip c && ltb i (length_of g j) && in_array g j
 
 -- while OIP is 1, a transfer with a byte in it was let in
 abbrev pub calm : ℕ → Transfer → Bool
-calm c t = not (oip c) || not t.selected || eqb t.count 0 || letIn t
+calm c t = not (oip c) || not t.selected || eqb t.count 0 || let_in t

@@ -1,7 +1,7 @@
 // The parts of a sound state, each over what it speaks of. Document 01, "Numbers of refusal".
 ghost use Rattle.std.specs.Prelude.{◌≡◌, ltb};
 ghost use Rattle.array.specs.Jobs.{length_of};
-ghost use Rattle.soundness.specs.Soundness.{registersSound, transferSound, workSound, in_array, calm};
+ghost use Rattle.soundness.specs.Soundness.{registers_sound, transfer_sound, work_sound, in_array, calm};
 
 use array::{Job, Work};
 use part::Geometry;
@@ -10,7 +10,7 @@ use transfer::Transfer;
 
 // Whether the registers' bits are within their masks, and bits 7 to 4 of C0h are 0.
 pub fn registers_sound(g: Geometry, regs: Registers) -> bool
-    ensures { result ≡ registersSound g regs }
+    ensures { result ≡ registers_sound g regs }
 {
     if regs.a0 & registers::a0_mask(g) != regs.a0 {
         return false;
@@ -26,7 +26,7 @@ pub fn registers_sound(g: Geometry, regs: Registers) -> bool
 
 // Whether a transfer's count is at most 5, and its next column at most 4,096.
 pub fn transfer_sound(t: Transfer) -> bool
-    ensures { result ≡ transferSound t }
+    ensures { result ≡ transfer_sound t }
 {
     let c = t.column;
     if 5 < t.count {
@@ -37,7 +37,7 @@ pub fn transfer_sound(t: Transfer) -> bool
 
 // Whether OIP is 1 exactly when an operation is in progress, and that is sound.
 pub fn work_sound(g: Geometry, c: u8, w: Work) -> bool
-    ensures { result ≡ workSound g c w }
+    ensures { result ≡ work_sound g c w }
 {
     match w {
         Work::Idle => !registers::oip(c),

@@ -1,16 +1,16 @@
 -- The cases of the complement bit, by computation.
 use mathlib.Core.Path.{refl}
 use Rattle.part.specs.Protection.{protects}
-use Rattle.registers.specs.Registers.{registerWritten}
-use Rattle.codes.specs.Codes.{instructionOf}
-use Rattle.transfer.specs.Transfer.{selects, shiftedIn, cached}
+use Rattle.registers.specs.Registers.{register_written}
+use Rattle.codes.specs.Codes.{instruction_of}
+use Rattle.transfer.specs.Transfer.{selects, shifted_in, cached}
 use Rattle.array.specs.Jobs.{written}
-use Rattle.requests.specs.Requests.{programFate, eraseFate}
+use Rattle.requests.specs.Requests.{program_fate, erase_fate}
 use Rattle.device.specs.Work.{unit_of, units, unitwise}
 use Rattle.device.specs.Instructions.{shifts, programs, erases, resets, effect, acted, deselects}
 use Rattle.device.specs.Step.{off, powered, step, run}
-use Rattle.steppings.specs.Steppings.{steppingCases, AllSteppingCases}
+use Rattle.steppings.specs.Steppings.{stepping_cases, AllSteppingCases}
 
-pub all-stepping-cases : AllSteppingCases
-unfolding steppingCases protects registerWritten instructionOf selects shiftedIn cached written unit_of units unitwise shifts programFate eraseFate programs erases resets effect acted deselects off powered step run
-all-stepping-cases = refl
+pub all_stepping_cases : AllSteppingCases
+unfolding stepping_cases protects register_written instruction_of selects shifted_in cached written unit_of units unitwise shifts program_fate erase_fate programs erases resets effect acted deselects off powered step run
+all_stepping_cases = refl

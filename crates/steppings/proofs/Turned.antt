@@ -6,10 +6,10 @@ use Prim.Native.Nat.{◌/◌}
 use lib.Dec.{T}
 use borrow.Author.Tests.{lt-ltb, lt-leb}
 use Rattle.part.specs.Part.{rows}
-use Rattle.part.specs.Protection.{protects, cmpSet, cmpCleared}
-use Rattle.part.proofs.Complement.{complement-exactly}
-use Rattle.part.proofs.Laws.{block-below}
-use Rattle.requests.specs.Requests.{begins?, usedOf, programFate, eraseFate}
+use Rattle.part.specs.Protection.{protects, cmp_set, cmp_cleared}
+use Rattle.part.proofs.Complement.{complement_exactly}
+use Rattle.part.proofs.Laws.{block_below}
+use Rattle.requests.specs.Requests.{begins?, used_of, program_fate, erase_fate}
 use Rattle.requests.specs.declared.Fate.TheVariants.{Begins, ByProtection}
 use Rattle.steppings.specs.Steppings.{RequestsTurned}
 
@@ -20,12 +20,12 @@ turned true false h = refl
 turned false true h = refl
 turned false false h = absurd (h.1 (λ t. t))
 
-pub requests-turned : RequestsTurned
-unfolding eraseFate programFate
-requests-turned g a0 r e lo hi h =
-    (rw (lt-ltb r.0 (rows g) h) turn, λ counts few. rw (lt-ltb r.0 (rows g) h, lt-leb 4 (usedOf r counts) few) turn)
+pub requests_turned : RequestsTurned
+unfolding erase_fate program_fate
+requests_turned g a0 r e lo hi h =
+    (rw (lt-ltb r.0 (rows g) h) turn, λ counts few. rw (lt-ltb r.0 (rows g) h, lt-leb 4 (used_of r counts) few) turn)
   where
-    turn : begins? (cond (protects g (cmpSet a0) (r.0 / g.pages)) ByProtection Begins) ≡ not (begins? (cond (protects g (cmpCleared a0) (r.0 / g.pages)) ByProtection Begins))
+    turn : begins? (cond (protects g (cmp_set a0) (r.0 / g.pages)) ByProtection Begins) ≡ not (begins? (cond (protects g (cmp_cleared a0) (r.0 / g.pages)) ByProtection Begins))
     turn =
-        turned (protects g (cmpSet a0) (r.0 / g.pages)) (protects g (cmpCleared a0) (r.0 / g.pages))
-        (complement-exactly g a0 (r.0 / g.pages) e lo hi (block-below g r h))
+        turned (protects g (cmp_set a0) (r.0 / g.pages)) (protects g (cmp_cleared a0) (r.0 / g.pages))
+        (complement_exactly g a0 (r.0 / g.pages) e lo hi (block_below g r h))

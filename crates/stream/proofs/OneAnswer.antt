@@ -10,10 +10,10 @@ use lib.ListN.{length, set, length-set}
 use borrow.Author.Tests.{ltb-true, ltb-false}
 use Rattle.part.specs.OneAnswer.{OneAnswer, OneEnd}
 use Rattle.part.specs.declared.Geometry.{Geometry}
-use Rattle.device.specs.Machine.{Machine, machine, onCache}
+use Rattle.device.specs.Machine.{Machine, machine, on_cache}
 use Rattle.device.specs.Instructions.{answer, shifts}
 use Rattle.device.specs.declared.State.{State}
-use Rattle.stream.specs.Streams.{ShiftAt, byteIn, Shifted, none, more, Follows, streams, Streamed}
+use Rattle.stream.specs.Streams.{ShiftAt, byte_in, Shifted, none, more, Follows, streams, Streamed}
 use Rattle.stream.specs.declared.Stream.{Stream}
 use Rattle.stream.proofs.streams.Reads as streams-reads
 use Rattle.stream.proofs.streams.Kinds as streams-kinds
@@ -42,14 +42,14 @@ module _ (g : Geometry) (log : List ℕ) (at written : ℕ) (m₀ : Machine) (ou
   -- what k shifts come to
   after : ℕ → Both
   after zero = record { machine = m₀; out = out₀ }
-  after (suc k) = let b = after k in record { machine = shifts g (byteIn log (at + 2 * k)) b.machine; out = set b.out (written + k) (answer g b.machine.state b.machine.store.cache) }
+  after (suc k) = let b = after k in record { machine = shifts g (byte_in log (at + 2 * k)) b.machine; out = set b.out (written + k) (answer g b.machine.state b.machine.store.cache) }
 
-  after-shifts : {k : ℕ} {m : Machine} {out : List ℕ} → Shifted g log at written m₀ out₀ k m out → both m out ≡ after k
+  after_shifts : {k : ℕ} {m : Machine} {out : List ℕ} → Shifted g log at written m₀ out₀ k m out → both m out ≡ after k
   unfolding after
-  after-shifts none = refl
-  after-shifts (more {k} {m} {out} d a z) =
+  after_shifts none = refl
+  after_shifts (more {k} {m} {out} d a z) =
       rw (add-one k)
-      (ap (λ (b : Both). record { machine = shifts g (byteIn log (at + 2 * k)) b.machine; out = set b.out (written + k) (answer g b.machine.state b.machine.store.cache) }) (after-shifts d))
+      (ap (λ (b : Both). record { machine = shifts g (byte_in log (at + 2 * k)) b.machine; out = set b.out (written + k) (answer g b.machine.state b.machine.store.cache) }) (after_shifts d))
 
   -- before the last of them another one followed
   followed : {k : ℕ} {m : Machine} {out : List ℕ} → Shifted g log at written m₀ out₀ k m out → (length out ≡ length out₀) × ((j : ℕ) → j < k → Follows log at written out₀ j)
@@ -80,26 +80,26 @@ module _ (g : Geometry) (s : State) (log : List ℕ) (at written : ℕ) (cache o
           equal false h true k = absurd (q.all e ((followed g log at written _ out (p.done any)).1 y.count (ltb-true _ _ k)))
           equal false h false k = omega (arith, ltb-false x.count y.count h, ltb-false y.count x.count k)
 
-  same_end : both (onCache x.state c₁ any) o₁ ≡ both (onCache y.state c₂ any) o₂
+  same_end : both (on_cache x.state c₁ any) o₁ ≡ both (on_cache y.state c₂ any) o₂
   unfolding any
   same_end =
-      after-shifts g log at written _ out (p.done any)
-      ∙ ap (after g log at written (onCache s cache any) out) as_many
-      ∙ sym (after-shifts g log at written _ out (q.done any))
+      after_shifts g log at written _ out (p.done any)
+      ∙ ap (after g log at written (on_cache s cache any) out) as_many
+      ∙ sym (after_shifts g log at written _ out (q.done any))
 
-  pub one-stream : x ≡ y
+  pub one_stream : x ≡ y
   unfolding any
-  one-stream = ap₂ (λ (t : State) (k : ℕ). record { state = t; count = k }) (ap (λ (b : Both). b.machine.state) same_end) as_many
+  one_stream = ap₂ (λ (t : State) (k : ℕ). record { state = t; count = k }) (ap (λ (b : Both). b.machine.state) same_end) as_many
 
-  pub one-memory : lent c₁ o₁ ≡ lent c₂ o₂
+  pub one_memory : lent c₁ o₁ ≡ lent c₂ o₂
   unfolding any
-  one-memory = ap (λ (b : Both). lent b.machine.store.cache b.out) same_end
+  one_memory = ap (λ (b : Both). lent b.machine.store.cache b.out) same_end
 
-pub shifts-one : OneEnd 3 shifts-kinds.ps shifts-kinds.r Lent (λ κs s. lent s.1.1.1.1.0.now s.1.1.1.1.1.0.now) shifts-reads.Post
-shifts-one κs a x y s t p q = (one-stream _ _ _ _ _ _ _ p q, one-memory _ _ _ _ _ _ _ p q)
+pub shifts_one : OneEnd 3 shifts-kinds.ps shifts-kinds.r Lent (λ κs s. lent s.1.1.1.1.0.now s.1.1.1.1.1.0.now) shifts-reads.Post
+shifts_one κs a x y s t p q = (one_stream _ _ _ _ _ _ _ p q, one_memory _ _ _ _ _ _ _ p q)
 
-pub streams-one : OneAnswer 0 streams-kinds.ps streams-kinds.r streams-reads.Post
-streams-one κs a x y s t p q = p ∙ sym q
+pub streams_one : OneAnswer 0 streams-kinds.ps streams-kinds.r streams-reads.Post
+streams_one κs a x y s t p q = p ∙ sym q
 
-pub at-column-one : OneAnswer 0 at-column-kinds.ps at-column-kinds.r at-column-reads.Post
-at-column-one κs a x y s t p q = p ∙ sym q
+pub at_column_one : OneAnswer 0 at-column-kinds.ps at-column-kinds.r at-column-reads.Post
+at_column_one κs a x y s t p q = p ∙ sym q

@@ -4,10 +4,10 @@ use Rattle.std.specs.Prelude.{Bool, true, false, ◌&&◌, ◌||◌, List, ◌�
 use Rattle.part.specs.Part.{page}
 use Rattle.part.specs.declared.Column.{Column}
 use Rattle.part.specs.declared.Geometry.{Geometry}
-use Rattle.transfer.specs.Transfer.{is, withTransfer, heard}
+use Rattle.transfer.specs.Transfer.{is, with_transfer, heard}
 use Rattle.transfer.specs.declared.Bus.{Bus}
 use Rattle.transfer.specs.declared.Transfer.{Transfer}
-use Rattle.device.specs.Machine.{Machine, onCache, busIn}
+use Rattle.device.specs.Machine.{Machine, on_cache, bus_in}
 use Rattle.device.specs.Instructions.{answer, shifts}
 use Rattle.device.specs.declared.State.{State}
 use Rattle.stream.specs.declared.Stream.{Stream}
@@ -35,15 +35,15 @@ pub record InPage (g : Geometry) (cache : List ℕ) (c : Column) : Type 0 where
   pub small : page g ≤ 4096
 
 -- the same as a test
-abbrev pub inPage : Geometry → List ℕ → Column → Bool
-inPage g cache c = eqb (length cache) (page g) && leb (page g) 4096 && ltb c.0 (page g)
+abbrev pub in_page : Geometry → List ℕ → Column → Bool
+in_page g cache c = eqb (length cache) (page g) && leb (page g) 4096 && ltb c.0 (page g)
 
 -- the state with another next column
-abbrev pub atColumn : Column → State → State
-atColumn c s =
+abbrev pub at_column : Column → State → State
+at_column c s =
     let t = s.bus.transfer in
-    busIn
-    (withTransfer
+    bus_in
+    (with_transfer
     (record { selected = t.selected; count = t.count; instruction = t.instruction; first = t.first; second = t.second; third = t.third; column = c })
     s.bus)
     s
@@ -56,26 +56,26 @@ pub record ShiftAt (log : List ℕ) (place : ℕ) : Type 0 where
   pub kind : get_or log place 0 ≡ 0x02
 
 -- the byte that it shifts in
-abbrev pub byteIn : List ℕ → ℕ → ℕ
-byteIn log place = get_or log (place + 1) 0
+abbrev pub byte_in : List ℕ → ℕ → ℕ
+byte_in log place = get_or log (place + 1) 0
 
 -- k shifts done one after another, from a place of the log and a place of the output on: the machine and the output then
 pub data Shifted (g : Geometry) (log : List ℕ) (at written : ℕ) (m₀ : Machine) (out₀ : List ℕ) : ℕ → Machine → List ℕ → Type 0 where
   none : Shifted g log at written m₀ out₀ 0 m₀ out₀
   more : {k : ℕ} {m : Machine} {out : List ℕ} → Shifted g log at written m₀ out₀ k m out → ShiftAt log (at + 2 * k) → written + k < length out
-      → Shifted g log at written m₀ out₀ (k + 1) (shifts g (byteIn log (at + 2 * k)) m) (set out (written + k) (answer g m.state m.store.cache))
+      → Shifted g log at written m₀ out₀ (k + 1) (shifts g (byte_in log (at + 2 * k)) m) (set out (written + k) (answer g m.state m.store.cache))
 
 -- behind k shifts another one stands in the log, and the output has room for it
 abbrev pub Follows : List ℕ → ℕ → ℕ → List ℕ → ℕ → Type 0
 Follows log at written out k = ShiftAt log (at + 2 * k) × (written + k < length out)
 
 -- no shift
-abbrev pub noShift : State → Stream
-noShift s = record { state = s; count = 0 }
+abbrev pub no_shift : State → Stream
+no_shift s = record { state = s; count = 0 }
 
 -- what a stream does from a state on: shifts, whatever else the machine holds; all that follow where the bus is in a stream, and none
 -- where it is not
 pub record Streamed (g : Geometry) (s : State) (log : List ℕ) (at written : ℕ) (cache out : List ℕ) (r : Stream) (cache₁ out₁ : List ℕ) : Type 0 where
-  pub done : (m : Machine) → Shifted g log at written (onCache s cache m) out r.count (onCache r.state cache₁ m) out₁
+  pub done : (m : Machine) → Shifted g log at written (on_cache s cache m) out r.count (on_cache r.state cache₁ m) out₁
   pub all : streams s.bus ≡ true → Follows log at written out r.count → ⊥
   pub still : streams s.bus ≡ false → r.count ≡ 0

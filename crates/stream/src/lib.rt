@@ -1,10 +1,10 @@
 // A stream of shifts: once the fifth byte of a transfer has come, only the next column moves on, and data is read or loaded. Document 01,
 // "Instructions".
 ghost use Rattle.std.specs.Prelude.{true, ◌≡◌, ◌/◌, ◌≤◌, ◌<◌, min, length};
-ghost use Rattle.columns.specs.Columns.{nextRead};
+ghost use Rattle.columns.specs.Columns.{next_read};
 ghost use Rattle.transfer.specs.Transfer.{is};
-ghost use Rattle.device.specs.Machine.{Machine, onCache};
-ghost use Rattle.stream.specs.Streams.{Past, InPage, inPage, loading, streams, atColumn, Shifted, Follows, noShift, Streamed};
+ghost use Rattle.device.specs.Machine.{Machine, on_cache};
+ghost use Rattle.stream.specs.Streams.{Past, InPage, in_page, loading, streams, at_column, Shifted, Follows, no_shift, Streamed};
 
 use device::State;
 use part::{Column, Geometry};
@@ -50,7 +50,7 @@ fn most(bytes: usize, room: usize) -> usize
 
 // The state with another next column.
 pub fn at_column(c: Column, s: State) -> State
-    ensures { result ≡ atColumn c s }
+    ensures { result ≡ at_column c s }
 {
     let x = s.bus;
     let t = x.transfer;
@@ -65,7 +65,7 @@ pub fn at_column(c: Column, s: State) -> State
 
 // Whether a column is in the page, the cache register as long as the page, and the page no longer than a sound part's.
 fn in_page(g: Geometry, cache: &[u8], c: Column) -> bool
-    ensures { result ≡ inPage g cache.now c }
+    ensures { result ≡ in_page g cache.now c }
 {
     let p = g.page();
     if cache.len() != p {
@@ -80,7 +80,7 @@ fn in_page(g: Geometry, cache: &[u8], c: Column) -> bool
 // The next column of a read in the page.
 fn next_in_page(page: usize, c: Column) -> Column
     requires { (c.0 < page) × (page ≤ 4096) }
-    ensures { result ≡ nextRead page c }
+    ensures { result ≡ next_read page c }
 {
     if part::wide_short(c.0) + 1 == page {
         return Column(0);
@@ -99,7 +99,7 @@ fn reads_round(
     written: usize,
 ) -> Stream
     requires { (Past s.bus) × (is s.bus.transfer 0x03 ≡ true) × (at ≤ length log.now) × (written ≤ length out.old) × (InPage g cache.now s.bus.transfer.column) }
-    ensures { (((m : Machine) → Shifted g log.now at written (onCache s cache.now m) out.old result.count (onCache result.state cache.now m) out.new)) × (Follows log.now at written out.old result.count → ⊥) }
+    ensures { (((m : Machine) → Shifted g log.now at written (on_cache s cache.now m) out.old result.count (on_cache result.state cache.now m) out.new)) × (Follows log.now at written out.old result.count → ⊥) }
 {
     let n = most(log.len() - at, out.len() - written);
     let mut c = s.bus.transfer.column;
@@ -132,7 +132,7 @@ fn reads_on(
     written: usize,
 ) -> Stream
     requires { (Past s.bus) × (is s.bus.transfer 0x03 ≡ true) × (at ≤ length log.now) × (written ≤ length out.old) }
-    ensures { (((m : Machine) → Shifted g log.now at written (onCache s cache.now m) out.old result.count (onCache result.state cache.now m) out.new)) × (Follows log.now at written out.old result.count → ⊥) }
+    ensures { (((m : Machine) → Shifted g log.now at written (on_cache s cache.now m) out.old result.count (on_cache result.state cache.now m) out.new)) × (Follows log.now at written out.old result.count → ⊥) }
 {
     let n = most(log.len() - at, out.len() - written);
     let page = g.page();
@@ -166,7 +166,7 @@ fn reads(
     written: usize,
 ) -> Stream
     requires { (Past s.bus) × (is s.bus.transfer 0x03 ≡ true) × (at ≤ length log.now) × (written ≤ length out.old) }
-    ensures { (((m : Machine) → Shifted g log.now at written (onCache s cache.now m) out.old result.count (onCache result.state cache.now m) out.new)) × (Follows log.now at written out.old result.count → ⊥) }
+    ensures { (((m : Machine) → Shifted g log.now at written (on_cache s cache.now m) out.old result.count (on_cache result.state cache.now m) out.new)) × (Follows log.now at written out.old result.count → ⊥) }
 {
     let t = s.bus.transfer;
     if in_page(g, cache, t.column) {
@@ -186,7 +186,7 @@ fn loads(
     written: usize,
 ) -> Stream
     requires { (Past s.bus) × (loading s.bus.transfer ≡ true) × (at ≤ length log.now) × (written ≤ length out.old) }
-    ensures { (((m : Machine) → Shifted g log.now at written (onCache s cache.old m) out.old result.count (onCache result.state cache.new m) out.new)) × (Follows log.now at written out.old result.count → ⊥) }
+    ensures { (((m : Machine) → Shifted g log.now at written (on_cache s cache.old m) out.old result.count (on_cache result.state cache.new m) out.new)) × (Follows log.now at written out.old result.count → ⊥) }
 {
     let n = most(log.len() - at, out.len() - written);
     let mut c = s.bus.transfer.column;
@@ -212,7 +212,7 @@ fn loads(
 
 // No shift.
 fn none(s: State) -> Stream
-    ensures { result ≡ noShift s }
+    ensures { result ≡ no_shift s }
 {
     Stream { state: s, count: 0 }
 }

@@ -39,17 +39,17 @@ beside f h R m k (suc n) i x y l r = beside f h R m k n (suc i) (f i x) (h i y) 
 
 -- steps that write in a part, laid back, are steps that write in the list
 module _ (a k : ℕ) (v : ℕ → ℕ → ℕ) where
-  abbrev in-part : ℕ → List ℕ → List ℕ
-  in-part i l = set l i (v i (get_or l i 0))
+  abbrev in_part : ℕ → List ℕ → List ℕ
+  in_part i l = set l i (v i (get_or l i 0))
 
   abbrev in_list : ℕ → List ℕ → List ℕ
   in_list i l = set l (a + i) (v i (get_or l (a + i) 0))
 
-  pub laid-back : (n i : ℕ) (xs : List ℕ) → i + n ≤ k → take a xs ++ (steps in-part i n (take k (drop a xs)) ++ drop k (drop a xs)) ≡ steps in_list i n xs
+  pub laid_back : (n i : ℕ) (xs : List ℕ) → i + n ≤ k → take a xs ++ (steps in_part i n (take k (drop a xs)) ++ drop k (drop a xs)) ≡ steps in_list i n xs
   unfolding steps
-  laid-back zero i xs l = rw (take-append-drop k (drop a xs), take-append-drop a xs)
-  laid-back (suc n) i xs l =
+  laid_back zero i xs l = rw (take-append-drop k (drop a xs), take-append-drop a xs)
+  laid_back (suc n) i xs l =
       let h : i < k = omega arith in
       let b : a ≤ a + i = omega arith in
       rw (get_or-take, get_or-drop)
-      (rw (take-set-le, drop-set-add, take-set-lt, drop-set-lt) at (laid-back n (suc i) (in_list i xs) (omega arith)))
+      (rw (take-set-le, drop-set-add, take-set-lt, drop-set-lt) at (laid_back n (suc i) (in_list i xs) (omega arith)))

@@ -9,7 +9,7 @@ use lib.Bits.{bit_or, or_zero_r, or_add_and, and_le_l}
 use lib.Dec.{eqb, ltb}
 use lib.ListN.{length, get_or, get_or-eq_default}
 use borrow.Author.Tests.{eqb-true, eqb-false, ne_eqb, ltb-true, ltb-false}
-use Rattle.stretches.specs.Steps.{steps, sumFrom}
+use Rattle.stretches.specs.Steps.{steps, sum_from}
 use Rattle.stretches.proofs.Loop.{Taking, taking, taken, took}
 
 -- up to byte i: the sum so far, and that what was seen is 0 where it is
@@ -29,7 +29,7 @@ pub seen_more : {bytes : List ℕ} {seen i : ℕ} → Seen bytes seen i → i < 
 seen_more {bytes} {seen} {i} s h =
     record { sum = s.sum + get_or bytes i 0; along = taken s.along h refl; same = more seen s.sum (get_or bytes i 0) s.same }
 
-pub seen_all : {bytes : List ℕ} {seen i : ℕ} → Seen bytes seen i → length bytes ≤ i → eqb seen 0 ≡ eqb (sumFrom (λ j. get_or bytes j 0) 0 (length bytes)) 0
+pub seen_all : {bytes : List ℕ} {seen i : ℕ} → Seen bytes seen i → length bytes ≤ i → eqb seen 0 ≡ eqb (sum_from (λ j. get_or bytes j 0) 0 (length bytes)) 0
 seen_all {bytes} s h = s.same ∙ rw (sub-zero (length bytes)) at (ap (λ (n : ℕ). eqb n 0) (took s.along h))
 
 -- a sum that is 0 has only zeros
@@ -52,8 +52,8 @@ module _ (f : ℕ → ℕ) where
       go false t r = r (lt k i h (eqb-false k i t))
 
 -- so that every byte of a list is, and what stands for those past its end too
-pub none-set : (bytes : List ℕ) → sumFrom (λ j. get_or bytes j 0) 0 (length bytes) ≡ 0 → (k : ℕ) → get_or bytes k 0 ≡ 0
-none-set bytes e k = go (ltb k (length bytes)) refl
+pub none_set : (bytes : List ℕ) → sum_from (λ j. get_or bytes j 0) 0 (length bytes) ≡ 0 → (k : ℕ) → get_or bytes k 0 ≡ 0
+none_set bytes e k = go (ltb k (length bytes)) refl
   where
     go : (b : Bool) → ltb k (length bytes) ≡ b → get_or bytes k 0 ≡ 0
     go true t = each (λ j. get_or bytes j 0) (length bytes) 0 0 k e (omega arith) (omega (arith, ltb-true k (length bytes) t))

@@ -8,9 +8,9 @@ steps f i zero x = x
 steps f i (suc n) x = steps f (suc i) n (f i x)
 
 -- the bits set in n bytes from byte i on (`ones` of a byte is how many of its binary digits are 1)
-abbrev pub onesFrom : (ℕ → ℕ) → ℕ → ℕ → ℕ
-onesFrom f i n = steps (λ j sum. sum + ones (f j)) i n 0
+abbrev pub ones_from : (ℕ → ℕ) → ℕ → ℕ → ℕ
+ones_from f i n = steps (λ j sum. sum + ones (f j)) i n 0
 
 -- the sum of n bytes from byte i on: 0 exactly where each of them is
-abbrev pub sumFrom : (ℕ → ℕ) → ℕ → ℕ → ℕ
-sumFrom f i n = steps (λ j sum. sum + f j) i n 0
+abbrev pub sum_from : (ℕ → ℕ) → ℕ → ℕ → ℕ
+sum_from f i n = steps (λ j sum. sum + f j) i n 0

@@ -1,7 +1,7 @@
 // Stretches of bytes: the units of a read, a program and an erase on them, one loop each, and marked bits counted and turned back.
 ghost use Rattle.std.specs.Prelude.{◌≡◌, ◌-◌, ◌*◌, ◌≤◌, ◌<◌, eqb, length, get_or, set};
 ghost use Rattle.std.specs.Int.Bits.{bit_and, bit_xor};
-ghost use Rattle.stretches.specs.Steps.{steps, onesFrom, sumFrom};
+ghost use Rattle.stretches.specs.Steps.{steps, ones_from, sum_from};
 
 // Unit i of a read: one cache byte takes the cell.
 fn read_unit(page: &[u8], cache: &mut [u8], i: usize)
@@ -106,7 +106,7 @@ pub fn erase_units(block: &mut [u8], from: usize, to: usize)
 // How many bits are set in the bytes `from` up to `to`.
 pub fn ones_in(bytes: &[u8], from: usize, to: usize) -> u32
     requires { (from ≤ to) × (to ≤ length bytes.now) × (to ≤ 4096) }
-    ensures { (result ≡ onesFrom (λ i. get_or bytes.now i 0) from (to - from)) × (result ≤ 8 * to) }
+    ensures { (result ≡ ones_from (λ i. get_or bytes.now i 0) from (to - from)) × (result ≤ 8 * to) }
 {
     let mut sum = 0u32;
     let mut i = from;
@@ -119,7 +119,7 @@ pub fn ones_in(bytes: &[u8], from: usize, to: usize) -> u32
 
 // Whether each byte is 0.
 pub fn all_zero(bytes: &[u8]) -> bool
-    ensures { result ≡ eqb (sumFrom (λ i. get_or bytes.now i 0) 0 (length bytes.now)) 0 }
+    ensures { result ≡ eqb (sum_from (λ i. get_or bytes.now i 0) 0 (length bytes.now)) 0 }
 {
     let mut seen = 0u8;
     let mut i = 0;

@@ -15,14 +15,14 @@ use Rattle.suppositions.proofs.starts.Kinds as starts-kinds
 pub both_one : OneAnswer 0 both-kinds.ps both-kinds.r both-reads.Post
 both_one κs a x y s t p q = p ∙ sym q
 
-pub either-one : OneAnswer 0 either-kinds.ps either-kinds.r either-reads.Post
-either-one κs a x y s t p q = p ∙ sym q
+pub either_one : OneAnswer 0 either-kinds.ps either-kinds.r either-reads.Post
+either_one κs a x y s t p q = p ∙ sym q
 
-pub idle-one : OneAnswer 0 idle-kinds.ps idle-kinds.r idle-reads.Post
-idle-one κs a x y s t p q = p ∙ sym q
+pub idle_one : OneAnswer 0 idle-kinds.ps idle-kinds.r idle-reads.Post
+idle_one κs a x y s t p q = p ∙ sym q
 
-pub allowed-one : OneAnswer 0 allowed-kinds.ps allowed-kinds.r allowed-reads.Post
-allowed-one κs a x y s t p q = p ∙ sym q
+pub allowed_one : OneAnswer 0 allowed-kinds.ps allowed-kinds.r allowed-reads.Post
+allowed_one κs a x y s t p q = p ∙ sym q
 
-pub starts-one : OneAnswer 0 starts-kinds.ps starts-kinds.r starts-reads.Post
-starts-one κs a x y s t p q = p ∙ sym q
+pub starts_one : OneAnswer 0 starts-kinds.ps starts-kinds.r starts-reads.Post
+starts_one κs a x y s t p q = p ∙ sym q

@@ -1,6 +1,6 @@
 // The suppositions of demand 3 as tests: whether a log may start in a state, whether a record may come in it, whether the array is idle.
 ghost use Rattle.std.specs.Prelude.{◌&&◌, ◌||◌, ◌≡◌};
-ghost use Rattle.whole.specs.Orderly.{idle, first, unknown, resetting, allowed, firstRead, upRegisters, upTransfer, powerUp?, starts};
+ghost use Rattle.whole.specs.Orderly.{idle, first, unknown, resetting, allowed, first_read, up_registers, up_transfer, power_up?, starts};
 
 use array::{Job, Work};
 use buslog::Record;
@@ -81,7 +81,7 @@ pub fn allowed(s: State, e: Record) -> bool
 
 // Whether the read of row 0 has just begun.
 fn first_read(w: Work) -> bool
-    ensures { result ≡ firstRead w }
+    ensures { result ≡ first_read w }
 {
     match w {
         Work::Idle => false,
@@ -96,7 +96,7 @@ fn first_read(w: Work) -> bool
 
 // Whether the registers have their power-up values.
 fn up_registers(r: Registers) -> bool
-    ensures { result ≡ upRegisters r }
+    ensures { result ≡ up_registers r }
 {
     let two = both(r.a0 == 0x38, r.b0 == 0x10);
     both(both(two, r.c0 == 0x01), r.d0 == 0x40)
@@ -104,7 +104,7 @@ fn up_registers(r: Registers) -> bool
 
 // Whether the transfer is as power-up leaves it.
 fn up_transfer(t: Transfer) -> bool
-    ensures { result ≡ upTransfer t }
+    ensures { result ≡ up_transfer t }
 {
     let c = t.column;
     let none = both(both(!t.selected, t.count == 0), t.is(codes::NO_BYTE));
@@ -114,7 +114,7 @@ fn up_transfer(t: Transfer) -> bool
 
 // Whether the state is the power-up state, WP# at either level.
 fn at_power_up(s: State) -> bool
-    ensures { result ≡ powerUp? s }
+    ensures { result ≡ power_up? s }
 {
     let r = s.regs;
     let x = s.bus;

@@ -45,9 +45,9 @@ abbrev pub unmeant : String
 unmeant = "no such refusal"
 
 -- the words of a number among some
-unfoldable pub wordsAmong : List Meaning → ℕ → String
-wordsAmong [] n = unmeant
-wordsAmong (m ∷ ms) n = if eqb n m.number then m.words else wordsAmong ms n
+unfoldable pub words_among : List Meaning → ℕ → String
+words_among [] n = unmeant
+words_among (m ∷ ms) n = if eqb n m.number then m.words else words_among ms n
 
 -- the characters' numbers
 unfoldable pub bytes : String → List ℕ
@@ -56,7 +56,7 @@ bytes (c ∷ˢ s) = code c ∷ bytes s
 
 -- the bytes of a number's words
 abbrev pub text_of : ℕ → List ℕ
-text_of n = bytes (wordsAmong meanings n)
+text_of n = bytes (words_among meanings n)
 
 -- ---- a text in lent memory
 
@@ -66,24 +66,24 @@ pub record CLaid : Type 0 where
   pub out : List ℕ
 
 -- the two together
-abbrev pub faceLaid : ℕ → List ℕ → CLaid
-faceLaid count out = record { count = count; out = out }
+abbrev pub face_laid : ℕ → List ℕ → CLaid
+face_laid count out = record { count = count; out = out }
 
 -- a text at the front with a NUL behind it, the rest as it was; where they do not fit, 0 and not a byte changed
-unfoldable pub textLaid : List ℕ → List ℕ → CLaid
-textLaid text out =
-    if leb (length out) (length text) then faceLaid 0 out
-    else faceLaid (length text) (text ++ (0 ∷ drop (length text + 1) out))
+unfoldable pub text_laid : List ℕ → List ℕ → CLaid
+text_laid text out =
+    if leb (length out) (length text) then face_laid 0 out
+    else face_laid (length text) (text ++ (0 ∷ drop (length text + 1) out))
 
 -- ---- how the code looks words up: in one table of bytes. First the words for a number that has none, then row by row a number and its
 -- words; a NUL stands behind all words
 
 -- the bytes before the first NUL
-unfoldable pub upToNul : List ℕ → List ℕ
-upToNul [] = []
-upToNul (b ∷ bs) = if eqb b 0 then [] else b ∷ upToNul bs
+unfoldable pub up_to_nul : List ℕ → List ℕ
+up_to_nul [] = []
+up_to_nul (b ∷ bs) = if eqb b 0 then [] else b ∷ up_to_nul bs
 
 -- what stands behind the number of a row, or else `other`; the first byte is inside words, or else it is a number
-unfoldable pub behindNumber : Bool → ℕ → List ℕ → List ℕ → List ℕ
-behindNumber inside n other [] = other
-behindNumber inside n other (b ∷ bs) = if not inside && eqb n b then bs else behindNumber (not (inside && eqb b 0)) n other bs
+unfoldable pub behind_number : Bool → ℕ → List ℕ → List ℕ → List ℕ
+behind_number inside n other [] = other
+behind_number inside n other (b ∷ bs) = if not inside && eqb n b then bs else behind_number (not (inside && eqb b 0)) n other bs

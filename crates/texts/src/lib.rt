@@ -1,6 +1,6 @@
 // The texts of the refusals: one table of bytes, and how a text is put into lent memory.
 ghost use Rattle.std.specs.Prelude.{true, not, ◌&&◌, ◌≡◌, ◌≤◌, eqb, length, drop, get_or};
-ghost use Rattle.texts.specs.Text.{text_of, upToNul, behindNumber, faceLaid, textLaid};
+ghost use Rattle.texts.specs.Text.{text_of, up_to_nul, behind_number, face_laid, text_laid};
 
 // Whether a byte of a table begins the row of a number.
 fn row_of(inside: bool, b: u8, n: u8) -> bool
@@ -18,7 +18,7 @@ fn within(inside: bool, b: u8) -> bool
 
 // Where the words of a number begin in a table.
 fn words_at(table: &[u8], n: u8) -> usize
-    ensures { (result ≤ length table.now) × (drop result table.now ≡ behindNumber true n table.now table.now) }
+    ensures { (result ≤ length table.now) × (drop result table.now ≡ behind_number true n table.now table.now) }
 {
     let mut inside = true;
     let mut i = 0;
@@ -42,7 +42,7 @@ fn byte_at(row: &[u8], i: usize) -> u8
 
 // How many bytes stand before the first NUL.
 fn nul_at(row: &[u8]) -> usize
-    ensures { result ≡ length (upToNul row.now) }
+    ensures { result ≡ length (up_to_nul row.now) }
 {
     let mut i = 0;
     while byte_at(row, i) != 0 {
@@ -53,7 +53,7 @@ fn nul_at(row: &[u8]) -> usize
 
 // The bytes before a NUL at the front of lent memory, a NUL behind them, and their number; or 0 and not a byte.
 fn lay(row: &[u8], out: &mut [u8]) -> usize
-    ensures { faceLaid result out.new ≡ textLaid (upToNul row.now) out.old }
+    ensures { face_laid result out.new ≡ text_laid (up_to_nul row.now) out.old }
 {
     if out.len() <= nul_at(row) {
         return 0;
@@ -71,7 +71,7 @@ fn lay(row: &[u8], out: &mut [u8]) -> usize
 
 // The words of a number in a table, laid.
 fn lay_words(table: &[u8], n: u8, out: &mut [u8]) -> usize
-    ensures { faceLaid result out.new ≡ textLaid (upToNul (behindNumber true n table.now table.now)) out.old }
+    ensures { face_laid result out.new ≡ text_laid (up_to_nul (behind_number true n table.now table.now)) out.old }
 {
     let a = words_at(table, n);
     lay(&table[a..], out)
@@ -79,7 +79,7 @@ fn lay_words(table: &[u8], n: u8, out: &mut [u8]) -> usize
 
 // What a number of refusal means. A row of the table: the number, its words and a NUL; the first words are those of any other number.
 pub fn lay_text(refusal: u8, out: &mut [u8]) -> usize
-    ensures { faceLaid result out.new ≡ textLaid (text_of refusal) out.old }
+    ensures { face_laid result out.new ≡ text_laid (text_of refusal) out.old }
 {
     lay_words(
         b"no such refusal\0\

@@ -24,32 +24,32 @@ use Rattle.transfer.proofs.Bus.body_heard.Kinds as body-heard-kinds
 use Rattle.transfer.proofs.Bus.caches.Reads as caches-reads
 use Rattle.transfer.proofs.Bus.caches.Kinds as caches-kinds
 
-pub heard-one : OneAnswer 0 heard-kinds.ps heard-kinds.r heard-reads.Post
-heard-one κs a x y s t p q = p ∙ sym q
+pub heard_one : OneAnswer 0 heard-kinds.ps heard-kinds.r heard-reads.Post
+heard_one κs a x y s t p q = p ∙ sym q
 
-pub fresh-one : OneAnswer 0 fresh-kinds.ps fresh-kinds.r fresh-reads.Post
-fresh-one κs a x y s t p q = p ∙ sym q
+pub fresh_one : OneAnswer 0 fresh-kinds.ps fresh-kinds.r fresh-reads.Post
+fresh_one κs a x y s t p q = p ∙ sym q
 
 pub is_one : OneAnswer 0 is-kinds.ps is-kinds.r is-reads.Post
 is_one κs a x y s t p q = p ∙ sym q
 
-pub full-one : OneAnswer 0 full-kinds.ps full-kinds.r full-reads.Post
-full-one κs a x y s t p q = p ∙ sym q
+pub full_one : OneAnswer 0 full-kinds.ps full-kinds.r full-reads.Post
+full_one κs a x y s t p q = p ∙ sym q
 
 pub row_one : OneAnswer 0 row-kinds.ps row-kinds.r row_reads.Post
 row_one κs a x y s t p q = p ∙ sym q
 
-pub selects-one : OneAnswer 0 selects-kinds.ps selects-kinds.r selects-reads.Post
-selects-one κs a x y s t p q = p ∙ sym q
+pub selects_one : OneAnswer 0 selects-kinds.ps selects-kinds.r selects-reads.Post
+selects_one κs a x y s t p q = p ∙ sym q
 
-pub ends-one : OneAnswer 0 ends-kinds.ps ends-kinds.r ends-reads.Post
-ends-one κs a x y s t p q = p ∙ sym q
+pub ends_one : OneAnswer 0 ends-kinds.ps ends-kinds.r ends-reads.Post
+ends_one κs a x y s t p q = p ∙ sym q
 
-pub shifted-in-one : OneAnswer 0 shifted-in-kinds.ps shifted-in-kinds.r shifted-in-reads.Post
-shifted-in-one κs a x y s t p q = p ∙ sym q
+pub shifted_in_one : OneAnswer 0 shifted-in-kinds.ps shifted-in-kinds.r shifted-in-reads.Post
+shifted_in_one κs a x y s t p q = p ∙ sym q
 
-pub body-heard-one : OneAnswer 0 body-heard-kinds.ps body-heard-kinds.r body-heard-reads.Post
-body-heard-one κs a x y s t p q = p ∙ sym q
+pub body_heard_one : OneAnswer 0 body-heard-kinds.ps body-heard-kinds.r body-heard-reads.Post
+body_heard_one κs a x y s t p q = p ∙ sym q
 
-pub caches-one : OneEnd 1 caches-kinds.ps caches-kinds.r (List ℕ) (λ κs s. s.1.1.1.0.now) caches-reads.Post
-caches-one κs a x y s t p q = (refl, p ∙ sym q)
+pub caches_one : OneEnd 1 caches-kinds.ps caches-kinds.r (List ℕ) (λ κs s. s.1.1.1.0.now) caches-reads.Post
+caches_one κs a x y s t p q = (refl, p ∙ sym q)

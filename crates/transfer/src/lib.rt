@@ -1,6 +1,6 @@
 // A transfer on the bus: chip select, the bytes shifted in, and what they do to the cache register. Document 01, "Instructions".
 ghost use Rattle.std.specs.Prelude.{◌≡◌};
-ghost use Rattle.transfer.specs.Transfer.{is, full, fresh, selects, ends, row_of, columnBytes, columnOn, columnAfter, instructed, later, heard, shiftedIn, bodyHeard, stored, cached};
+ghost use Rattle.transfer.specs.Transfer.{is, full, fresh, selects, ends, row_of, column_bytes, column_on, column_after, instructed, later, heard, shifted_in, body_heard, stored, cached};
 
 use codes::Instruction;
 use part::{Column, Geometry, Row};
@@ -67,7 +67,7 @@ impl Transfer {
 
     // The bytes before the first one that moves the column on, or 0 for an instruction without a column.
     fn column_bytes(self) -> u8
-        ensures { result ≡ columnBytes self }
+        ensures { result ≡ column_bytes self }
     {
         if self.is(0x03) {
             return 4;
@@ -83,7 +83,7 @@ impl Transfer {
 
     // The next column after a byte that moves it on: a read goes round the page, a load on past its end.
     fn column_on(self, g: Geometry) -> Column
-        ensures { result ≡ columnOn g self }
+        ensures { result ≡ column_on g self }
     {
         let c = self.column;
         if self.is(0x03) {
@@ -94,7 +94,7 @@ impl Transfer {
 
     // The next column after a byte.
     fn column_after(self, g: Geometry, b: u8) -> Column
-        ensures { result ≡ columnAfter g b self }
+        ensures { result ≡ column_after g b self }
     {
         let k = self.column_bytes();
         let c = self.column;
@@ -206,7 +206,7 @@ impl Bus {
 
     // One byte shifted in.
     pub fn shifted_in(self, g: Geometry, busy: bool, b: u8) -> Bus
-        ensures { result ≡ shiftedIn g busy b self }
+        ensures { result ≡ shifted_in g busy b self }
     {
         let t = self.transfer;
         if !self.heard() {
@@ -226,7 +226,7 @@ impl Bus {
 
     // Whether a byte shifted now comes after the instruction, and is heard.
     pub fn body_heard(self) -> bool
-        ensures { result ≡ bodyHeard self }
+        ensures { result ≡ body_heard self }
     {
         let t = self.transfer;
         if self.heard() { t.count != 0 } else { false }

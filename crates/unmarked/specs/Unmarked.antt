@@ -11,7 +11,7 @@ use Rattle.array.specs.Jobs.{Marks, absent, lent}
 use Rattle.device.specs.Machine.{Machine, withLent}
 use Rattle.device.specs.Work.{unitwise}
 use Rattle.device.specs.Step.{run}
-use Rattle.model.specs.Runs.{Outcome, bytesOut, run_of}
+use Rattle.model.specs.Runs.{Outcome, bytes_out, run_of}
 
 -- ---- only work looks at marks
 
@@ -34,7 +34,7 @@ abbrev pub OnlyWork : Type 0
 OnlyWork =
     (g : Geometry) (m : Machine) (k : Marks) (es : List Record) → NoneWork es →
     (run g (unitwise g) (withLent k m) es ≡ withLent k (run g (unitwise g) m es))
-    × (bytesOut g (unitwise g) (withLent k m) es ≡ bytesOut g (unitwise g) m es)
+    × (bytes_out g (unitwise g) (withLent k m) es ≡ bytes_out g (unitwise g) m es)
 
 -- ---- no call changes them
 
@@ -45,15 +45,15 @@ MarksKept = (g : Geometry) (room : ℕ) (log : List ℕ) (m : Machine) → (run_
 -- ---- none lent is all 0
 
 -- as many marks as cells, each 0
-abbrev pub allZero : Geometry → Marks
-allZero g = lent (replicate (rows g * page g) 0)
+abbrev pub all_zero : Geometry → Marks
+all_zero g = lent (replicate (rows g * page g) 0)
 
 -- an outcome whose machine has other marks
-abbrev pub outcomeOn : Marks → Outcome → Outcome
-outcomeOn k o = record { refusal = o.refusal; machine = withLent k o.machine; records = o.records; used = o.used; output = o.output }
+abbrev pub outcome_on : Marks → Outcome → Outcome
+outcome_on k o = record { refusal = o.refusal; machine = withLent k o.machine; records = o.records; used = o.used; output = o.output }
 
 -- a run that lends none is the run with all of them 0, in the refusal too, whatever part, state, log and memory are handed in
 abbrev pub NoMarks : Type 0
 NoMarks =
     (g : Geometry) (room : ℕ) (log : List ℕ) (m : Machine) →
-    run_of g (unitwise g) room log (withLent (allZero g) m) ≡ outcomeOn (allZero g) (run_of g (unitwise g) room log (withLent absent m))
+    run_of g (unitwise g) room log (withLent (all_zero g) m) ≡ outcome_on (all_zero g) (run_of g (unitwise g) room log (withLent absent m))

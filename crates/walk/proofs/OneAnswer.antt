@@ -30,17 +30,17 @@ lent cells cache counts out = record { cells = cells; cache = cache; counts = co
 abbrev lent_by : Machine → List ℕ → Lent
 lent_by m out = lent m.store.cells m.store.cache m.counts out
 
-pub start-one : OneAnswer 0 start-kinds.ps start-kinds.r start-reads.Post
-start-one κs a x y s t p q = p ∙ sym q
+pub start_one : OneAnswer 0 start-kinds.ps start-kinds.r start-reads.Post
+start_one κs a x y s t p q = p ∙ sym q
 
-pub so-far-one : OneAnswer 0 so-far-kinds.ps so-far-kinds.r so-far-reads.Post
-so-far-one κs a x y s t p q = p ∙ sym q
+pub so_far_one : OneAnswer 0 so-far-kinds.ps so-far-kinds.r so-far-reads.Post
+so_far_one κs a x y s t p q = p ∙ sym q
 
-pub room-of-one : OneAnswer 0 room-of-kinds.ps room-of-kinds.r room-of-reads.Post
-room-of-one κs a x y s t p q = p ∙ sym q
+pub room_of_one : OneAnswer 0 room-of-kinds.ps room-of-kinds.r room-of-reads.Post
+room_of_one κs a x y s t p q = p ∙ sym q
 
-pub onward-one : OneEnd 5 onward-kinds.ps onward-kinds.r Lent (λ κs s. lent s.1.1.1.0.now s.1.1.1.1.0.now s.1.1.1.1.1.0.now s.1.1.1.1.1.1.0.now) onward-reads.Post
-onward-one κs a x y s t p q = (ap (λ (u : Turned). u.went) (p ∙ sym q), ap (λ (u : Turned). lent_by u.machine u.out) (p ∙ sym q))
+pub onward_one : OneEnd 5 onward-kinds.ps onward-kinds.r Lent (λ κs s. lent s.1.1.1.0.now s.1.1.1.1.0.now s.1.1.1.1.1.0.now s.1.1.1.1.1.1.0.now) onward-reads.Post
+onward_one κs a x y s t p q = (ap (λ (u : Turned). u.went) (p ∙ sym q), ap (λ (u : Turned). lent_by u.machine u.out) (p ∙ sym q))
 
 pub turn_one : OneEnd 4 turn-kinds.ps turn-kinds.r Lent (λ κs s. lent s.1.1.1.1.0.now s.1.1.1.1.1.0.now s.1.1.1.1.1.1.0.now s.1.1.1.1.1.1.1.0.now) turn-reads.Post
 turn_one κs a x y s t p q = (ap (λ (m : Machine). m.state) (p.0 ∙ sym q.0), ap₂ lent_by (p.0 ∙ sym q.0) (p.1 ∙ sym q.1))

@@ -13,7 +13,7 @@ use Rattle.buslog.specs.declared.Next.{Next}
 use Rattle.buslog.specs.declared.Next.TheVariants.{Found, Stop}
 use Rattle.buslog.specs.declared.Record.{Record}
 use Rattle.buslog.specs.declared.Why.{Why}
-use Rattle.buslog.proofs.Logs.{front-found}
+use Rattle.buslog.proofs.Logs.{front_found}
 use Rattle.buslog.proofs.RoundTrip.{found_front}
 use Rattle.array.specs.declared.Work.{Work}
 use Rattle.array.specs.declared.Work.TheVariants.{Idle, Busy}
@@ -22,7 +22,7 @@ use Rattle.device.specs.Work.{Array, WorkReady}
 use Rattle.soundness.specs.Soundness.{WorkSound}
 use Rattle.device.specs.Step.{step}
 use Rattle.kept.specs.Kept.{SoundMachine}
-use Rattle.refusals.specs.Refusals.{refusalOf}
+use Rattle.refusals.specs.Refusals.{refusal_of}
 use Rattle.refusals.specs.declared.Refusal.{Refusal}
 use Rattle.refusals.specs.declared.Refusal.TheVariants.{NoRoom}
 use Rattle.walk.specs.Turns.{takes, puts, turned, turn_of}
@@ -30,8 +30,8 @@ use Rattle.walk.specs.declared.Walk.{Walk}
 use Rattle.walk.specs.declared.Went.TheVariants.{On, Off}
 
 module _ (g : Geometry) (s : Sound g) where
-  pub work-ready : (m : Machine) → SoundMachine g m → WorkReady g m.state.work m.store
-  work-ready m h = go m.state.work h.state.work-sound
+  pub work_ready : (m : Machine) → SoundMachine g m → WorkReady g m.state.work m.store
+  work_ready m h = go m.state.work h.state.sound_work
     where
       go : (w : Work) → WorkSound g w → WorkReady g w m.store
       go Idle k = tt
@@ -42,25 +42,25 @@ pub further : (log : List ℕ) (at : ℕ) → at ≤ length log → (e : Record)
 unfolding next_of
 further log at i e n p =
     let f = found_front at (front (drop at log)) e n p in
-    let k : suc f.0 ≤ length log - at = rw (length-drop at log) at (front-found (drop at log) [] e f.0 f.1).0 in
+    let k : suc f.0 ≤ length log - at = rw (length-drop at log) at (front_found (drop at log) [] e f.0 f.1).0 in
     (omega (arith, f.2), omega (arith, f.2))
 
 -- ---- a turn, case by case
 
 module _ (g : Geometry) (arr : Array) (w : Walk) (n : Next) (m : Machine) (out : List ℕ) where
   -- no record stands there
-  pub turn-stops : (why : Why) (r : Refusal) → n ≡ Stop why → r ≡ refusalOf why → turned (Off r) m out ≡ turn_of g arr w n m out
+  pub turn_stops : (why : Why) (r : Refusal) → n ≡ Stop why → r ≡ refusal_of why → turned (Off r) m out ≡ turn_of g arr w n m out
   unfolding turn_of
-  turn-stops why r p q = rw (p, q)
+  turn_stops why r p q = rw (p, q)
 
   -- one that has no room
-  pub turn-full : (e : Record) (place : ℕ) → n ≡ Found e place → length out - w.written < takes e → turned (Off NoRoom) m out ≡ turn_of g arr w n m out
+  pub turn_full : (e : Record) (place : ℕ) → n ≡ Found e place → length out - w.written < takes e → turned (Off NoRoom) m out ≡ turn_of g arr w n m out
   unfolding turn_of
-  turn-full e place p k = rw (p, lt-ltb _ _ k)
+  turn_full e place p k = rw (p, lt-ltb _ _ k)
 
   -- one that has
-  pub turn-goes : (e : Record) (place room : ℕ) (m₁ : Machine) (out₁ : List ℕ) → n ≡ Found e place → room ≡ takes e → room ≤ length out - w.written
+  pub turn_goes : (e : Record) (place room : ℕ) (m₁ : Machine) (out₁ : List ℕ) → n ≡ Found e place → room ≡ takes e → room ≤ length out - w.written
       → m₁ ≡ step g arr m e → out₁ ≡ over out w.written (puts g m e)
       → turned (On (record { state = m₁.state; at = place; records = w.records + 1; written = w.written + room })) m₁ out₁ ≡ turn_of g arr w n m out
   unfolding turn_of
-  turn-goes e place room m₁ out₁ p q k x y = rw (p, le-ltb (length out - w.written) (takes e) (omega arith), q, x, y)
+  turn_goes e place room m₁ out₁ p q k x y = rw (p, le-ltb (length out - w.written) (takes e) (omega arith), q, x, y)

@@ -12,7 +12,7 @@ use Rattle.device.specs.Work.{Array}
 use Rattle.device.specs.Instructions.{answer}
 use Rattle.device.specs.Step.{step}
 use Rattle.device.specs.declared.State.{State}
-use Rattle.refusals.specs.Refusals.{refusalOf}
+use Rattle.refusals.specs.Refusals.{refusal_of}
 use Rattle.refusals.specs.declared.Refusal.{Refusal}
 use Rattle.refusals.specs.declared.Refusal.TheVariants.{NoRoom}
 use Rattle.walk.specs.declared.Answer.{Answer}
@@ -77,13 +77,13 @@ abbrev pub turned : Went → Machine → List ℕ → Turned
 turned r m out = record { went = r; machine = m; out = out }
 
 -- the state then: a run that goes off keeps its own
-abbrev pub stateAfter : Walk → Went → State
-stateAfter w (On x) = x.state
-stateAfter w (Off r) = w.state
+abbrev pub state_after : Walk → Went → State
+state_after w (On x) = x.state
+state_after w (Off r) = w.state
 
 -- 6 to 8 where there is no record; 9 where it has no room; else it is done, and its output stands behind the bytes written
 unfoldable pub turn_of : Geometry → Array → Walk → Next → Machine → List ℕ → Turned
-turn_of g arr w (Stop why) m out = turned (Off (refusalOf why)) m out
+turn_of g arr w (Stop why) m out = turned (Off (refusal_of why)) m out
 turn_of g arr w (Found e place) m out =
     let m₁ = step g arr m e in
     if ltb (length out - w.written) (takes e) then turned (Off NoRoom) m out

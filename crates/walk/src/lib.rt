@@ -5,9 +5,9 @@ ghost use Rattle.buslog.specs.Read.{next_of};
 ghost use Rattle.buslog.specs.Write.{over};
 ghost use Rattle.device.specs.Machine.{machine};
 ghost use Rattle.device.specs.Work.{unitwise};
-ghost use Rattle.device.specs.Step.{step, pinsOf};
+ghost use Rattle.device.specs.Step.{step, pins_of};
 ghost use Rattle.kept.specs.Kept.{SoundMachine};
-ghost use Rattle.walk.specs.Turns.{takes, puts, start_of, answered, Stands, turned, stateAfter, turn_of};
+ghost use Rattle.walk.specs.Turns.{takes, puts, start_of, answered, Stands, turned, state_after, turn_of};
 
 use buslog::{Next, Record};
 use device::State;
@@ -85,7 +85,7 @@ pub fn room_of(e: Record) -> usize
 
 // The pins at a level.
 fn pins_of(v: u8) -> Pins
-    ensures { result ≡ pinsOf v }
+    ensures { result ≡ pins_of v }
 {
     Pins { wp: v == 1 }
 }
@@ -131,7 +131,7 @@ pub fn onward(
     out: &mut [u8],
 ) -> Went
     requires { (Sound g) × (SoundMachine g (machine w.state cells.old cache.old counts.old)) × (Stands w log.now out.old) }
-    ensures { turned result (machine (stateAfter w result) cells.new cache.new counts.new) out.new
+    ensures { turned result (machine (state_after w result) cells.new cache.new counts.new) out.new
         ≡ turn_of g (unitwise g) w (next_of log.now w.at) (machine w.state cells.old cache.old counts.old) out.old }
 {
     match buslog::next_at(log, w.at) {

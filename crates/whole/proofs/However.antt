@@ -13,44 +13,44 @@ use Rattle.device.specs.Machine.{Machine}
 use Rattle.device.specs.Work.{unitwise}
 use Rattle.device.specs.Step.{step, run}
 use Rattle.walk.specs.Turns.{puts}
-use Rattle.model.specs.Runs.{bytesOut, Outcome, End}
+use Rattle.model.specs.Runs.{bytes_out, Outcome, End}
 use Rattle.whole.specs.Whole.{whole}
 use Rattle.whole.specs.Orderly.{asks, asked}
-use Rattle.whole.specs.Demand.{settled, Given, machine_of, Ran, wholly, recordsDone, supposed, SameEnd, busOnly, withLog, However}
-use Rattle.whole.proofs.Demand3.{agreed, done-read, keeps-order, same_end}
+use Rattle.whole.specs.Demand.{settled, Given, machine_of, Ran, wholly, records_done, supposed, SameEnd, bus_only, with_log, However}
+use Rattle.whole.proofs.Demand3.{agreed, done_read, keeps_order, same_end}
 
 -- ---- the whole run, without its work records
 
 module _ (g : Geometry) where
-  bus-run : (es : List Record) (m : Machine) → run g (whole g) m es ≡ run g (whole g) m (busOnly es)
+  bus_run : (es : List Record) (m : Machine) → run g (whole g) m es ≡ run g (whole g) m (bus_only es)
   unfolding run step whole
-  bus-run [] m = refl
-  bus-run (Units n ∷ es) m = bus-run es m
-  bus-run (Select ∷ es) m = bus-run es (step g (whole g) m Select)
-  bus-run (Shift b ∷ es) m = bus-run es (step g (whole g) m (Shift b))
-  bus-run (Deselect ∷ es) m = bus-run es (step g (whole g) m Deselect)
-  bus-run (Level v ∷ es) m = bus-run es (step g (whole g) m (Level v))
-  bus-run (Power ∷ es) m = bus-run es (step g (whole g) m Power)
+  bus_run [] m = refl
+  bus_run (Units n ∷ es) m = bus_run es m
+  bus_run (Select ∷ es) m = bus_run es (step g (whole g) m Select)
+  bus_run (Shift b ∷ es) m = bus_run es (step g (whole g) m (Shift b))
+  bus_run (Deselect ∷ es) m = bus_run es (step g (whole g) m Deselect)
+  bus_run (Level v ∷ es) m = bus_run es (step g (whole g) m (Level v))
+  bus_run (Power ∷ es) m = bus_run es (step g (whole g) m Power)
 
-  bus-out : (es : List Record) (m : Machine) → bytesOut g (whole g) m es ≡ bytesOut g (whole g) m (busOnly es)
-  unfolding bytesOut step whole
-  bus-out [] m = refl
-  bus-out (Units n ∷ es) m = bus-out es m
-  bus-out (Select ∷ es) m = bus-out es (step g (whole g) m Select)
-  bus-out (Shift b ∷ es) m = ap (λ (l : List ℕ). puts g m (Shift b) ++ l) (bus-out es (step g (whole g) m (Shift b)))
-  bus-out (Deselect ∷ es) m = bus-out es (step g (whole g) m Deselect)
-  bus-out (Level v ∷ es) m = bus-out es (step g (whole g) m (Level v))
-  bus-out (Power ∷ es) m = bus-out es (step g (whole g) m Power)
+  bus_out : (es : List Record) (m : Machine) → bytes_out g (whole g) m es ≡ bytes_out g (whole g) m (bus_only es)
+  unfolding bytes_out step whole
+  bus_out [] m = refl
+  bus_out (Units n ∷ es) m = bus_out es m
+  bus_out (Select ∷ es) m = bus_out es (step g (whole g) m Select)
+  bus_out (Shift b ∷ es) m = ap (λ (l : List ℕ). puts g m (Shift b) ++ l) (bus_out es (step g (whole g) m (Shift b)))
+  bus_out (Deselect ∷ es) m = bus_out es (step g (whole g) m Deselect)
+  bus_out (Level v ∷ es) m = bus_out es (step g (whole g) m (Level v))
+  bus_out (Power ∷ es) m = bus_out es (step g (whole g) m Power)
 
-  bus-asked : (es : List Record) (m : Machine) → asked g (whole g) m es ≡ asked g (whole g) m (busOnly es)
+  bus_asked : (es : List Record) (m : Machine) → asked g (whole g) m es ≡ asked g (whole g) m (bus_only es)
   unfolding asked step whole
-  bus-asked [] m = refl
-  bus-asked (Units n ∷ es) m = bus-asked es m
-  bus-asked (Select ∷ es) m = bus-asked es (step g (whole g) m Select)
-  bus-asked (Shift b ∷ es) m = ap (λ (l : List Bool). asks m (Shift b) ++ l) (bus-asked es (step g (whole g) m (Shift b)))
-  bus-asked (Deselect ∷ es) m = bus-asked es (step g (whole g) m Deselect)
-  bus-asked (Level v ∷ es) m = bus-asked es (step g (whole g) m (Level v))
-  bus-asked (Power ∷ es) m = bus-asked es (step g (whole g) m Power)
+  bus_asked [] m = refl
+  bus_asked (Units n ∷ es) m = bus_asked es m
+  bus_asked (Select ∷ es) m = bus_asked es (step g (whole g) m Select)
+  bus_asked (Shift b ∷ es) m = ap (λ (l : List Bool). asks m (Shift b) ++ l) (bus_asked es (step g (whole g) m (Shift b)))
+  bus_asked (Deselect ∷ es) m = bus_asked es (step g (whole g) m Deselect)
+  bus_asked (Level v ∷ es) m = bus_asked es (step g (whole g) m (Level v))
+  bus_asked (Power ∷ es) m = bus_asked es (step g (whole g) m Power)
 
 -- ---- a run of either log, by its bus records alone
 
@@ -62,34 +62,34 @@ module _ (i : Given) (h : Bytes i.log) (e : End) (r : Ran i e) (t : T (supposed 
   start = settled part (machine_of i)
 
   abbrev bus : List Record
-  bus = busOnly (recordsDone i e)
+  bus = bus_only (records_done i e)
 
-  bus-es : busOnly (agreed i h e r t).es ≡ bus
-  bus-es = sym (ap busOnly (done-read i h e r t))
+  bus_es : bus_only (agreed i h e r t).es ≡ bus
+  bus_es = sym (ap bus_only (done_read i h e r t))
 
   ends_at : (wholly i).machine ≡ run part (whole part) start bus
-  ends_at = ap (λ (x : Outcome). x.machine) (agreed i h e r t).whole-did ∙ bus-run part (agreed i h e r t).es start ∙ ap (run part (whole part) start) bus-es
+  ends_at = ap (λ (x : Outcome). x.machine) (agreed i h e r t).whole_did ∙ bus_run part (agreed i h e r t).es start ∙ ap (run part (whole part) start) bus_es
 
-  puts-out : (wholly i).output ≡ bytesOut part (whole part) start bus
-  puts-out = ap (λ (x : Outcome). x.output) (agreed i h e r t).whole-did ∙ bus-out part (agreed i h e r t).es start ∙ ap (bytesOut part (whole part) start) bus-es
+  puts_out : (wholly i).output ≡ bytes_out part (whole part) start bus
+  puts_out = ap (λ (x : Outcome). x.output) (agreed i h e r t).whole_did ∙ bus_out part (agreed i h e r t).es start ∙ ap (bytes_out part (whole part) start) bus_es
 
-  asks_at : asked part (unitwise part) (machine_of i) (recordsDone i e) ≡ asked part (whole part) start bus
+  asks_at : asked part (unitwise part) (machine_of i) (records_done i e) ≡ asked part (whole part) start bus
   asks_at =
-      ap (asked part (unitwise part) (machine_of i)) (done-read i h e r t) ∙ (agreed i h e r t).questions (keeps-order i h e r t)
-      ∙ bus-asked part (agreed i h e r t).es start ∙ ap (asked part (whole part) start) bus-es
+      ap (asked part (unitwise part) (machine_of i)) (done_read i h e r t) ∙ (agreed i h e r t).questions (keeps_order i h e r t)
+      ∙ bus_asked part (agreed i h e r t).es start ∙ ap (asked part (whole part) start) bus_es
 
 -- ---- the two together
 
 pub however : However
 however i b h k e f r q same t u =
-    let j : Given = withLog b i in
+    let j : Given = with_log b i in
     let g : Geometry = i.part in
     let m : Machine = settled g (machine_of i) in
     let x : SameEnd i e = same_end i h e r t in
     let y : SameEnd j f = same_end j k f q u in
     let one : (wholly i).machine ≡ (wholly j).machine = ends_at i h e r t ∙ ap (run g (whole g) m) same ∙ sym (ends_at j k f q u) in
-    let put : (wholly i).output ≡ (wholly j).output = puts-out i h e r t ∙ ap (bytesOut g (whole g) m) same ∙ sym (puts-out j k f q u) in
-    let ask : asked g (unitwise g) (machine_of i) (recordsDone i e) ≡ asked g (unitwise g) (machine_of j) (recordsDone j f) = asks_at i h e r t ∙ ap (asked g (whole g) m) same ∙ sym (asks_at j k f q u) in
+    let put : (wholly i).output ≡ (wholly j).output = puts_out i h e r t ∙ ap (bytes_out g (whole g) m) same ∙ sym (puts_out j k f q u) in
+    let ask : asked g (unitwise g) (machine_of i) (records_done i e) ≡ asked g (unitwise g) (machine_of j) (records_done j f) = asks_at i h e r t ∙ ap (asked g (whole g) m) same ∙ sym (asks_at j k f q u) in
     let long : e.answer.written ≡ f.answer.written = x.written ∙ ap length put ∙ sym y.written in
     record {
       state = x.state ∙ ap (λ (m : Machine). m.state) one ∙ sym y.state;

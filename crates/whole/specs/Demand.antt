@@ -13,11 +13,11 @@ use Rattle.device.specs.declared.State.{State}
 use Rattle.refusals.specs.Refusals.{number_of}
 use Rattle.model.specs.Runs.{Outcome, run_of, End, shown}
 use Rattle.whole.specs.Whole.{whole}
-use Rattle.whole.specs.Orderly.{idle, orderly, powerUpAt, powerUp?, starts, asked}
+use Rattle.whole.specs.Orderly.{idle, orderly, power_up_at, power_up?, starts, asked}
 
 -- where the whole run begins: the power-up read is done before the first record
 unfoldable pub settled : Geometry → Machine → Machine
-settled g m = if powerUp? m.state then powered g (whole g) m else m
+settled g m = if power_up? m.state then powered g (whole g) m else m
 
 -- what is handed to `run`: the part, the state, the log, the lent memory and the output
 pub record Given : Type 0 where
@@ -47,12 +47,12 @@ abbrev pub wholly : Given → Outcome
 wholly i = run_of i.part (whole i.part) (length i.out) i.log (settled i.part (machine_of i))
 
 -- the records that were done
-abbrev pub recordsDone : Given → End → List Record
-recordsDone i e = take e.answer.records (parse i.log).records
+abbrev pub records_done : Given → End → List Record
+records_done i e = take e.answer.records (parse i.log).records
 
 -- the suppositions: begun at power-up or idle, orderly, and ending idle
 abbrev pub supposed : Given → End → Bool
-supposed i e = starts i.state && orderly i.part (machine_of i) (recordsDone i e) && idle e.answer.state
+supposed i e = starts i.state && orderly i.part (machine_of i) (records_done i e) && idle e.answer.state
 
 -- the end: device state, cells, cache register and page counts are those of the whole run; so are the answer's numbers; and the output bytes
 -- agree
@@ -66,12 +66,12 @@ pub record SameEnd (i : Given) (e : End) : Type 0 where
   pub records : e.answer.records ≡ (wholly i).records
   pub used : e.answer.used ≡ (wholly i).used
   pub written : e.answer.written ≡ length (wholly i).output
-  pub output : (n : ℕ) → n < e.answer.written → get_or (asked i.part (unitwise i.part) (machine_of i) (recordsDone i e)) n false ≡ false
+  pub output : (n : ℕ) → n < e.answer.written → get_or (asked i.part (unitwise i.part) (machine_of i) (records_done i e)) n false ≡ false
       → get_or e.out n 0 ≡ get_or (wholly i).output n 0
 
 -- T6, for every input: with refusal 0 this is the tender's third demand; with another number it holds of the records done
-abbrev pub Demand-3 : Type 0
-Demand-3 = (i : Given) → Bytes i.log → (e : End) → Ran i e → T (supposed i e) → SameEnd i e
+abbrev pub Demand3 : Type 0
+Demand3 = (i : Given) → Bytes i.log → (e : End) → Ran i e → T (supposed i e) → SameEnd i e
 
 -- the same of a run itself: `post` is its contract's own `ensures`, of what was handed in and what came back
 abbrev pub AboutRun : Type 0 → Given → End → Type 0
@@ -79,27 +79,27 @@ AboutRun post i e = post → Bytes i.log → T (supposed i e) → SameEnd i e
 
 -- where `run` gave 0, the records done are all the records of the log
 abbrev pub AllDone : Type 0
-AllDone = (i : Given) → Bytes i.log → (e : End) → Ran i e → number_of e.answer.refusal ≡ 0 → recordsDone i e ≡ (parse i.log).records
+AllDone = (i : Given) → Bytes i.log → (e : End) → Ran i e → number_of e.answer.refusal ≡ 0 → records_done i e ≡ (parse i.log).records
 
 -- the test of the start says what it should: the state is the power-up state, WP# at either level
 abbrev pub PowerUpExactly : Type 0
-PowerUpExactly = (s : State) → T (powerUp? s) ↔ (s ≡ powerUpAt s.bus.pins.wp)
+PowerUpExactly = (s : State) → T (power_up? s) ↔ (s ≡ power_up_at s.bus.pins.wp)
 
 -- ---- however the work falls
 
 -- the records of a log that are not work
-abbrev pub busOnly : List Record → List Record
-busOnly [] = []
-busOnly (Units n ∷ es) = busOnly es
-busOnly (Select ∷ es) = Select ∷ busOnly es
-busOnly (Shift b ∷ es) = Shift b ∷ busOnly es
-busOnly (Deselect ∷ es) = Deselect ∷ busOnly es
-busOnly (Level v ∷ es) = Level v ∷ busOnly es
-busOnly (Power ∷ es) = Power ∷ busOnly es
+abbrev pub bus_only : List Record → List Record
+bus_only [] = []
+bus_only (Units n ∷ es) = bus_only es
+bus_only (Select ∷ es) = Select ∷ bus_only es
+bus_only (Shift b ∷ es) = Shift b ∷ bus_only es
+bus_only (Deselect ∷ es) = Deselect ∷ bus_only es
+bus_only (Level v ∷ es) = Level v ∷ bus_only es
+bus_only (Power ∷ es) = Power ∷ bus_only es
 
 -- the same but for the log
-abbrev pub withLog : List ℕ → Given → Given
-withLog l i = given i.part i.state l i.cells i.cache i.counts i.out
+abbrev pub with_log : List ℕ → Given → Given
+with_log l i = given i.part i.state l i.cells i.cache i.counts i.out
 
 -- one end: of two runs, the state, the memory, and each output byte that is no status answer
 pub record EndsAlike (i : Given) (e f : End) : Type 0 where
@@ -108,11 +108,11 @@ pub record EndsAlike (i : Given) (e f : End) : Type 0 where
   pub cache : e.cache ≡ f.cache
   pub counts : e.counts ≡ f.counts
   pub written : e.answer.written ≡ f.answer.written
-  pub output : (n : ℕ) → n < e.answer.written → get_or (asked i.part (unitwise i.part) (machine_of i) (recordsDone i e)) n false ≡ false → get_or e.out n 0 ≡ get_or f.out n 0
+  pub output : (n : ℕ) → n < e.answer.written → get_or (asked i.part (unitwise i.part) (machine_of i) (records_done i e)) n false ≡ false → get_or e.out n 0 ≡ get_or f.out n 0
 
 -- two orderly logs that differ only in their work records, both ending idle, have one end
 abbrev pub However : Type 0
 However =
-    (i : Given) (b : List ℕ) → Bytes i.log → Bytes b → (e f : End) → Ran i e → Ran (withLog b i) f
-    → busOnly (recordsDone i e) ≡ busOnly (recordsDone (withLog b i) f)
-    → T (supposed i e) → T (supposed (withLog b i) f) → EndsAlike i e f
+    (i : Given) (b : List ℕ) → Bytes i.log → Bytes b → (e f : End) → Ran i e → Ran (with_log b i) f
+    → bus_only (records_done i e) ≡ bus_only (records_done (with_log b i) f)
+    → T (supposed i e) → T (supposed (with_log b i) f) → EndsAlike i e f

@@ -6,14 +6,14 @@ use Rattle.buslog.specs.declared.Record.{Record}
 use Rattle.buslog.specs.declared.Record.TheVariants.{Units, Power}
 use Rattle.array.specs.declared.Job.TheVariants.{Erase}
 use Rattle.array.specs.declared.Work.TheVariants.{Busy}
-use Rattle.device.specs.Machine.{workIn, statusIn}
-use Rattle.device.specs.Step.{powerUp}
+use Rattle.device.specs.Machine.{work_in, status_in}
+use Rattle.device.specs.Step.{power_up}
 use Rattle.device.specs.declared.State.{State}
 use Rattle.cases.specs.AfterReset.{reset}
-use Rattle.cases.specs.Cases.{Case, ◌·◌⇒◌, send, blank, told, idleWith, number, same_list, wrong}
+use Rattle.cases.specs.Cases.{Case, ◌·◌⇒◌, send, blank, told, idle_with, number, same_list, wrong}
 use Rattle.refusals.specs.Refusals.{number_of}
-use Rattle.whole.specs.Orderly.{idle, orderly, powerUpAt, starts}
-use Rattle.whole.specs.Demand.{Given, given, machine_of, end_of, wholly, recordsDone}
+use Rattle.whole.specs.Orderly.{idle, orderly, power_up_at, starts}
+use Rattle.whole.specs.Demand.{Given, given, machine_of, end_of, wholly, records_done}
 
 -- ---- what is handed to `run`, and what it gives
 
@@ -28,8 +28,8 @@ numbers s cells cache counts =
     s.regs.a0 ∷ s.regs.b0 ∷ s.regs.c0 ∷ s.regs.d0 ∷ number t.selected ∷ t.count ∷ number (idle s) ∷ cells ++ cache ++ counts
 
 -- the two ends are one
-abbrev pub oneEnd : Given → Bool
-oneEnd i =
+abbrev pub one_end : Given → Bool
+one_end i =
     let e = end_of i in
     let m = (wholly i).machine in
     same_list (numbers e.answer.state e.cells e.cache e.counts) (numbers m.state m.store.cells m.store.cache m.counts)
@@ -38,7 +38,7 @@ oneEnd i =
 abbrev pub verdicts : Given → List ℕ
 verdicts i =
     let e = end_of i in
-    number_of e.answer.refusal ∷ number (starts i.state) ∷ number (orderly i.part (machine_of i) (recordsDone i e)) ∷ number (idle e.answer.state) ∷ number (oneEnd i) ∷ []
+    number_of e.answer.refusal ∷ number (starts i.state) ∷ number (orderly i.part (machine_of i) (records_done i e)) ∷ number (idle e.answer.state) ∷ number (one_end i) ∷ []
 
 -- ---- the logs
 
@@ -52,7 +52,7 @@ erase = send (0xD8 ∷ 0 ∷ 0 ∷ 5 ∷ []) ++ Units 30 ∷ []
 
 -- an idle device, with WEL set
 abbrev pub enabled : State
-enabled = (idleWith 0 2 blank).state
+enabled = (idle_with 0 2 blank).state
 
 -- begun at power-up, with polls and Read ID while busy: an erase, a program in the block, and the page read back
 abbrev pub driver : List Record
@@ -65,14 +65,14 @@ driver =
 
 unfoldable pub rows : List Case
 rows =
-    1 · verdicts (on powerUp driver) ⇒ (0 ∷ 1 ∷ 1 ∷ 1 ∷ 1 ∷ [])
-    ∷ 2 · verdicts (on (powerUpAt false) (Units 7 ∷ Units 13 ∷ [])) ⇒ (0 ∷ 1 ∷ 1 ∷ 1 ∷ 1 ∷ [])
-    ∷ 3 · verdicts (on (workIn (Busy (Erase (record { 0 = 5 })) 30) (statusIn 1 enabled)) (Units 50 ∷ [])) ⇒ (0 ∷ 0 ∷ 1 ∷ 1 ∷ 0 ∷ [])
-    ∷ 4 · verdicts (on powerUp (send (0x06 ∷ []) ++ Units 20 ∷ [])) ⇒ (0 ∷ 1 ∷ 0 ∷ 1 ∷ 0 ∷ [])
+    1 · verdicts (on power_up driver) ⇒ (0 ∷ 1 ∷ 1 ∷ 1 ∷ 1 ∷ [])
+    ∷ 2 · verdicts (on (power_up_at false) (Units 7 ∷ Units 13 ∷ [])) ⇒ (0 ∷ 1 ∷ 1 ∷ 1 ∷ 1 ∷ [])
+    ∷ 3 · verdicts (on (work_in (Busy (Erase (record { 0 = 5 })) 30) (status_in 1 enabled)) (Units 50 ∷ [])) ⇒ (0 ∷ 0 ∷ 1 ∷ 1 ∷ 0 ∷ [])
+    ∷ 4 · verdicts (on power_up (send (0x06 ∷ []) ++ Units 20 ∷ [])) ⇒ (0 ∷ 1 ∷ 0 ∷ 1 ∷ 0 ∷ [])
     ∷ 5 · verdicts (on enabled (erase ++ reset ++ Units 8 ∷ [])) ⇒ (0 ∷ 1 ∷ 0 ∷ 1 ∷ 0 ∷ [])
     ∷ 6 · verdicts (on enabled (erase ++ Power ∷ Units 20 ∷ [])) ⇒ (0 ∷ 1 ∷ 0 ∷ 1 ∷ 0 ∷ [])
     ∷ 7 · verdicts (on enabled erase) ⇒ (0 ∷ 1 ∷ 1 ∷ 0 ∷ 0 ∷ [])
-    ∷ 8 · (let i = on powerUp (Units 3 ∷ poll ++ Units 17 ∷ []) in verdicts i ++ take 3 (end_of i).out ++ (wholly i).output)
+    ∷ 8 · (let i = on power_up (Units 3 ∷ poll ++ Units 17 ∷ []) in verdicts i ++ take 3 (end_of i).out ++ (wholly i).output)
     ⇒ (0 ∷ 1 ∷ 1 ∷ 1 ∷ 1 ∷ 0xFF ∷ 0xFF ∷ 0x01 ∷ 0xFF ∷ 0xFF ∷ 0x00 ∷ [])
     ∷ 9 · verdicts (on enabled (reset ++ Units 3 ∷ poll ++ Units 9 ∷ send (0x04 ∷ []))) ⇒ (0 ∷ 1 ∷ 1 ∷ 1 ∷ 1 ∷ [])
     ∷ 10 · verdicts (on enabled (reset ++ Units 5 ∷ reset ++ Units 8 ∷ [])) ⇒ (0 ∷ 1 ∷ 0 ∷ 1 ∷ 1 ∷ [])

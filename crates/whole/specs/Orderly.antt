@@ -7,13 +7,13 @@ use Rattle.array.specs.declared.Job.TheVariants.{Read, Program, Erase, Restart}
 use Rattle.array.specs.declared.Work.{Work}
 use Rattle.array.specs.declared.Work.TheVariants.{Idle, Busy}
 use Rattle.registers.specs.declared.Registers.{Registers}
-use Rattle.codes.specs.Codes.{noByte, byte_of, instructionOf, open?}
-use Rattle.transfer.specs.Transfer.{is, full, heard, bodyHeard, withPins}
+use Rattle.codes.specs.Codes.{no_byte, byte_of, instruction_of, open?}
+use Rattle.transfer.specs.Transfer.{is, full, heard, body_heard, with_pins}
 use Rattle.transfer.specs.declared.Bus.{Bus}
 use Rattle.transfer.specs.declared.Transfer.{Transfer}
-use Rattle.device.specs.Machine.{Machine, busIn}
+use Rattle.device.specs.Machine.{Machine, bus_in}
 use Rattle.device.specs.Work.{Array, unitwise}
-use Rattle.device.specs.Step.{powerUp, step}
+use Rattle.device.specs.Step.{power_up, step}
 use Rattle.device.specs.declared.State.{State}
 
 -- ---- the array is idle
@@ -33,7 +33,7 @@ first x = heard x && eqb x.transfer.count 0
 
 -- no instruction has this byte
 abbrev pub unknown : ℕ → Bool
-unknown b = eqb (byte_of (instructionOf b)) noByte
+unknown b = eqb (byte_of (instruction_of b)) no_byte
 
 -- chip select, rising now, lets a reset take effect
 abbrev pub resetting : Transfer → Bool
@@ -57,40 +57,40 @@ orderly g m (e ∷ es) = allowed m.state e && orderly g (step g (unitwise g) m e
 -- ---- the start: at power-up, or idle
 
 -- the power-up state, WP# at a level
-abbrev pub powerUpAt : Bool → State
-powerUpAt wp = busIn (withPins (record { wp = wp }) powerUp.bus) powerUp
+abbrev pub power_up_at : Bool → State
+power_up_at wp = bus_in (with_pins (record { wp = wp }) power_up.bus) power_up
 
 -- the read of row 0 has just begun
-abbrev pub firstRead : Work → Bool
-firstRead Idle = false
-firstRead (Busy (Read r) i) = eqb r.0 0 && eqb i 0
-firstRead (Busy (Program r) i) = false
-firstRead (Busy (Erase r) i) = false
-firstRead (Busy Restart i) = false
+abbrev pub first_read : Work → Bool
+first_read Idle = false
+first_read (Busy (Read r) i) = eqb r.0 0 && eqb i 0
+first_read (Busy (Program r) i) = false
+first_read (Busy (Erase r) i) = false
+first_read (Busy Restart i) = false
 
 -- the registers have their power-up values, the transfer is as power-up leaves it
-abbrev pub upRegisters : Registers → Bool
-upRegisters r = eqb r.a0 0x38 && eqb r.b0 0x10 && eqb r.c0 0x01 && eqb r.d0 0x40
+abbrev pub up_registers : Registers → Bool
+up_registers r = eqb r.a0 0x38 && eqb r.b0 0x10 && eqb r.c0 0x01 && eqb r.d0 0x40
 
-abbrev pub upTransfer : Transfer → Bool
-upTransfer t =
-    not t.selected && eqb t.count 0 && is t noByte && eqb t.first 0 && eqb t.second 0 && eqb t.third 0 && eqb t.column.0 0
+abbrev pub up_transfer : Transfer → Bool
+up_transfer t =
+    not t.selected && eqb t.count 0 && is t no_byte && eqb t.first 0 && eqb t.second 0 && eqb t.third 0 && eqb t.column.0 0
 
 -- the state is the power-up state, WP# at either level
-abbrev pub powerUp? : State → Bool
-powerUp? s = upRegisters s.regs && upTransfer s.bus.transfer && firstRead s.work
+abbrev pub power_up? : State → Bool
+power_up? s = up_registers s.regs && up_transfer s.bus.transfer && first_read s.work
 
 abbrev pub starts : State → Bool
-starts s = powerUp? s || idle s
+starts s = power_up? s || idle s
 
 -- ---- the output
 
 -- the byte on DO answers Get Feature of C0h
-abbrev pub ofStatus : Bus → Bool
-ofStatus x = let t = x.transfer in bodyHeard x && (is t 0x0F && leb 2 t.count) && eqb t.first 0xC0
+abbrev pub of_status : Bus → Bool
+of_status x = let t = x.transfer in body_heard x && (is t 0x0F && leb 2 t.count) && eqb t.first 0xC0
 
 abbrev pub asks : Machine → Record → List Bool
-asks m (Shift b) = ofStatus m.state.bus ∷ []
+asks m (Shift b) = of_status m.state.bus ∷ []
 asks m Select = []
 asks m Deselect = []
 asks m (Units n) = []

@@ -5,7 +5,7 @@ use native.Mathlib.Omega.{arith}
 use borrow.Author.Tests.{lt-ltb, le-ltb}
 use borrow.Author.Rules.{rules}
 use Rattle.array.specs.Jobs.{length_of}
-use Rattle.array.proofs.Room.{length-small}
+use Rattle.array.proofs.Room.{length_small}
 use Rattle.array.proofs.advance.Statement.{statement}
 use Rattle.array.proofs.advance.Tie as tie
 
@@ -16,7 +16,7 @@ sub-if1 : tie.Need-overflow-sub-if1
 sub-if1 c = omega (arith, c.length-of.ensures, c.before.before.before.requires.going.unit_left)
 
 add-to : tie.Need-overflow-add-to
-add-to c = omega (arith, length-small c.before.before.before.before.args.g c.before.before.before.before.args.job c.before.before.before.before.requires.part)
+add-to c = omega (arith, length_small c.before.before.before.before.args.g c.before.before.before.before.args.job c.before.before.before.before.requires.part)
 
 units-requires : tie.Need-units-requires
 units-requires c κs = search rules

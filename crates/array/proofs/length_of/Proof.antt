@@ -1,7 +1,7 @@
 -- `length_of`: a read and a program have a page's bytes, an erase a block's, a reset 8 units.
 use native.Mathlib.Omega.{arith}
 use borrow.Author.Rules.{rules}
-use Rattle.array.proofs.Room.{block-small}
+use Rattle.array.proofs.Room.{block_small}
 use Rattle.array.proofs.length_of.Statement.{statement}
 use Rattle.array.proofs.length_of.Tie as tie
 
@@ -27,7 +27,7 @@ page-requires-3 : tie.Need-page-requires-3
 page-requires-3 c κs = search rules
 
 mul-result : tie.Need-overflow-mul-result
-mul-result c = rw (c.before.wide.ensures, c.page3.ensures) (omega (arith, block-small c.before.before.before.before.args.g c.before.before.before.before.requires))
+mul-result c = rw (c.before.wide.ensures, c.page3.ensures) (omega (arith, block_small c.before.before.before.before.args.g c.before.before.before.before.requires))
 
 enum-told-4 : tie.Need-enum-told-4
 enum-told-4 c = search rules

@@ -3,9 +3,9 @@ use Prim.Native.Nat.{◌+◌, ◌-◌}
 use native.Mathlib.Omega.{arith}
 use borrow.Author.Rules.{rules}
 use Rattle.part.specs.Part.{page}
-use Rattle.array.specs.Jobs.{pageAt}
-use Rattle.array.proofs.Room.{page-in}
-use Rattle.array.proofs.Stores.{program-in}
+use Rattle.array.specs.Jobs.{page_at}
+use Rattle.array.proofs.Room.{page_in}
+use Rattle.array.proofs.Stores.{program_in}
 use Rattle.array.proofs.program.Statement.{statement}
 use Rattle.array.proofs.program.Tie as tie
 
@@ -18,7 +18,7 @@ page-requires c κs = search rules
 add-e : tie.Need-overflow-add-e
 add-e c =
     let s = c.before.before.before.before in
-    omega (arith, page-in s.args.g s.args.row s.requires.0.part s.requires.0.going.in-array)
+    omega (arith, page_in s.args.g s.args.row s.requires.0.part s.requires.0.going.in_array)
 
 sub-program-units : tie.Need-overflow-sub-program-units
 sub-program-units c = search rules
@@ -29,7 +29,7 @@ part-program-units-start c = search rules
 part-program-units-end : tie.Need-slice-bounds-program-units-end
 part-program-units-end c =
     let s = c.before.before.before.before in
-    omega (arith, page-in s.args.g s.args.row s.requires.0.part s.requires.0.going.in-array)
+    omega (arith, page_in s.args.g s.args.row s.requires.0.part s.requires.0.going.in_array)
 
 program-units-requires : tie.Need-program-units-requires
 program-units-requires c κs = search rules
@@ -40,9 +40,9 @@ same_length c = search rules
 returns : tie.Need-returns
 returns c =
     let a = c.before.before.before.before.before.before.before.before.args in
-    let at = pageAt a.g a.row in
+    let at = page_at a.g a.row in
     rw (c.before.before.program-units.ensures, c.before.before.before.before.before.place.ensures, c.before.before.before.before.page.ensures)
-    (program-in a.g a.row a.cells.now a.cache.now (at + page a.g - at) (a.to - a.from) a.from (omega arith))
+    (program_in a.g a.row a.cells.now a.cache.now (at + page a.g - at) (a.to - a.from) a.from (omega arith))
 
 pub program-spec : {M : Type 1} → statement M
 program-spec =

@@ -3,9 +3,9 @@ use Prim.Native.Nat.{◌+◌, ◌-◌}
 use native.Mathlib.Omega.{arith}
 use borrow.Author.Rules.{rules}
 use Rattle.part.specs.Part.{page}
-use Rattle.array.specs.Jobs.{pageAt}
-use Rattle.array.proofs.Room.{page-in}
-use Rattle.array.proofs.Stores.{read-in, read_out}
+use Rattle.array.specs.Jobs.{page_at}
+use Rattle.array.proofs.Room.{page_in}
+use Rattle.array.proofs.Stores.{read_in, read_out}
 use Rattle.array.proofs.read.Statement.{statement}
 use Rattle.array.proofs.read.Tie as tie
 
@@ -24,7 +24,7 @@ page-requires c κs = search rules
 add-e : tie.Need-overflow-add-e
 add-e c =
     let s = c.before.before.before.before.before.before.before in
-    omega (arith, page-in s.args.g s.args.row s.requires.0.part (omega arith))
+    omega (arith, page_in s.args.g s.args.row s.requires.0.part (omega arith))
 
 sub-read-units : tie.Need-overflow-sub-read-units
 sub-read-units c = search rules
@@ -35,7 +35,7 @@ part-read-units-start c = search rules
 part-read-units-end : tie.Need-slice-bounds-read-units-end
 part-read-units-end c =
     let s = c.before.before.before.before.before.before.before in
-    omega (arith, page-in s.args.g s.args.row s.requires.0.part (omega arith))
+    omega (arith, page_in s.args.g s.args.row s.requires.0.part (omega arith))
 
 read-units-requires : tie.Need-read-units-requires
 read-units-requires c κs = search rules
@@ -49,9 +49,9 @@ same_length c = search rules
 returns : tie.Need-returns
 returns c =
     let a = c.before.before.before.before.before.before.before.before.before.before.before.before.args in
-    let at = pageAt a.g a.row in
+    let at = page_at a.g a.row in
     rw (c.before.before.read-units.ensures, c.before.before.before.before.before.before.place.ensures, c.before.before.before.before.before.page.ensures)
-    (read-in a.g a.row a.cells.now a.cache.now (at + page a.g - at) (a.to - a.from) a.from (omega arith) (omega arith))
+    (read_in a.g a.row a.cells.now a.cache.now (at + page a.g - at) (a.to - a.from) a.from (omega arith) (omega arith))
 
 same-length-2 : tie.Need-same-length-2
 same-length-2 c = search rules

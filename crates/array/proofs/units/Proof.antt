@@ -3,7 +3,7 @@ use mathlib.Core.Path.{sym}
 use Prim.Native.Nat.{◌-◌}
 use borrow.Author.Rules.{rules}
 use Rattle.array.specs.Jobs.{store}
-use Rattle.array.proofs.Stores.{restart-none}
+use Rattle.array.proofs.Stores.{restart_none}
 use Rattle.array.proofs.units.Statement.{statement}
 use Rattle.array.proofs.units.Tie as tie
 
@@ -58,7 +58,7 @@ returns-3 c = rw c.before.before.before.before.before.before.job3.given.1 c.befo
 returns-4 : tie.Need-returns-4
 returns-4 c =
     let a = c.before.before.before.before.args in
-    rw c.enum_told.given.1 (sym (restart-none a.g (a.to - a.from) a.from (store a.cells.now a.cache.now)))
+    rw c.enum_told.given.1 (sym (restart_none a.g (a.to - a.from) a.from (store a.cells.now a.cache.now)))
 
 pub units-spec : {M : Type 1} → statement M
 units-spec =

@@ -1,7 +1,7 @@
 -- Blank memory: the checks, and then three fills.
 use borrow.Author.Rules.{rules}
-use Rattle.refusals.proofs.Checked.{passed-no, passed-yes}
-use Rattle.beside.proofs.BlankMemory.{blank-refused, blank-done}
+use Rattle.refusals.proofs.Checked.{passed_no, passed_yes}
+use Rattle.beside.proofs.BlankMemory.{blank_refused, blank_done}
 use Rattle.beside.proofs.blank.Statement.{statement}
 use Rattle.beside.proofs.blank.Tie as tie
 
@@ -15,7 +15,7 @@ passes-requires : tie.Need-passes-requires
 passes-requires c κs = search rules
 
 returns : tie.Need-returns
-returns c = blank-refused _ _ _ _ _ (rw c.before.before.before.power-up.ensures at c.before.before.check.ensures) (passed-no c.before.before.check.result _ c.before.passes.ensures c.if1.true)
+returns c = blank_refused _ _ _ _ _ (rw c.before.before.before.power-up.ensures at c.before.before.check.ensures) (passed_no c.before.before.check.result _ c.before.passes.ensures c.if1.true)
 
 fill-requires : tie.Need-fill-requires
 fill-requires c κs = search rules
@@ -36,7 +36,7 @@ same-length-3 : tie.Need-same-length-3
 same-length-3 c = search rules
 
 returns-2 : tie.Need-returns-2
-returns-2 c = blank-done _ _ _ _ _ (rw c.before.before.before.before.before.before.before.before.before.before.before.before.before.before.before.power-up.ensures at c.before.before.before.before.before.before.before.before.before.before.before.before.before.before.check.ensures) (passed-yes c.before.before.before.before.before.before.before.before.before.before.before.before.before.before.check.result _ c.before.before.before.before.before.before.before.before.before.before.before.before.before.passes.ensures c.before.before.before.before.before.before.before.before.before.before.before.before.if1.false) _ _ _ c.before.before.before.before.before.before.before.before.before.before.fill.ensures c.before.before.before.before.before.before.fill2.ensures c.before.before.fill3.ensures
+returns-2 c = blank_done _ _ _ _ _ (rw c.before.before.before.before.before.before.before.before.before.before.before.before.before.before.before.power-up.ensures at c.before.before.before.before.before.before.before.before.before.before.before.before.before.before.check.ensures) (passed_yes c.before.before.before.before.before.before.before.before.before.before.before.before.before.before.check.result _ c.before.before.before.before.before.before.before.before.before.before.before.before.before.passes.ensures c.before.before.before.before.before.before.before.before.before.before.before.before.if1.false) _ _ _ c.before.before.before.before.before.before.before.before.before.before.fill.ensures c.before.before.before.before.before.before.fill2.ensures c.before.before.fill3.ensures
 
 pub blank-spec : {M : Type 1} → statement M
 blank-spec =

@@ -1,6 +1,6 @@
 -- Blank memory, its refusal by its number.
 use mathlib.Core.Path.{ap}
-use Rattle.beside_face.specs.Beside.{blankedAs}
+use Rattle.beside_face.specs.Beside.{blanked_as}
 use borrow.Author.Rules.{rules}
 use Rattle.beside_face.proofs.sleet_blank.Statement.{statement}
 use Rattle.beside_face.proofs.sleet_blank.Tie as tie
@@ -24,7 +24,7 @@ same-length-3 : tie.Need-same-length-3
 same-length-3 c = search rules
 
 returns : tie.Need-returns
-returns c = rw (c.number_of_lem.ensures, ← c.before.before.before.before.before.before.before.before.before.before.before.part_of.ensures) (ap blankedAs c.before.before.before.before.before.before.before.blank.ensures)
+returns c = rw (c.number_of_lem.ensures, ← c.before.before.before.before.before.before.before.before.before.before.before.part_of.ensures) (ap blanked_as c.before.before.before.before.before.before.before.blank.ensures)
 
 pub sleet-blank-spec : {M : Type 1} → statement M
 sleet-blank-spec =

@@ -2,8 +2,8 @@
 use native.Mathlib.Omega.{arith}
 use lib.ListN.{length-set}
 use borrow.Author.Rules.{rules}
-use Rattle.buslog.proofs.RoundTrip.{over-one}
-use Rattle.card.proofs.Stored.{over-two}
+use Rattle.buslog.proofs.RoundTrip.{over_one}
+use Rattle.card.proofs.Stored.{over_two}
 use Rattle.card.proofs.answer.Statement.{statement}
 use Rattle.card.proofs.answer.Tie as tie
 
@@ -74,49 +74,49 @@ same_length : tie.Need-same-length
 same_length c = search rules
 
 returns : tie.Need-returns
-returns c = let a = c.before.before.before.before.before.before.before.args in rw (c.before.before.enum_told.given.1, c.before.told.ensures, c.bit_at.ensures) (over-two a.out.now a.at _ _ (omega (arith, rw c.before.before.enum_told.given.1 at c.before.before.before.before.before.before.before.requires.2)))
+returns c = let a = c.before.before.before.before.before.before.before.args in rw (c.before.before.enum_told.given.1, c.before.told.ensures, c.bit_at.ensures) (over_two a.out.now a.at _ _ (omega (arith, rw c.before.before.enum_told.given.1 at c.before.before.before.before.before.before.before.requires.2)))
 
 same-length-2 : tie.Need-same-length-2
 same-length-2 c = search rules
 
 returns-2 : tie.Need-returns-2
-returns-2 c = let a = c.before.before.before.before.before.before.args in rw (c.before.enum-told2.given.1, c.told2.ensures) (over-one a.out.now a.at _ (omega (arith, rw c.before.enum-told2.given.1 at c.before.before.before.before.before.before.requires.2)))
+returns-2 c = let a = c.before.before.before.before.before.before.args in rw (c.before.enum-told2.given.1, c.told2.ensures) (over_one a.out.now a.at _ (omega (arith, rw c.before.enum-told2.given.1 at c.before.before.before.before.before.before.requires.2)))
 
 same-length-3 : tie.Need-same-length-3
 same-length-3 c = search rules
 
 returns-3 : tie.Need-returns-3
-returns-3 c = let a = c.before.before.before.before.before.args in rw c.enum-told3.given.1 (over-one a.out.now a.at 0xFF (omega (arith, rw c.enum-told3.given.1 at c.before.before.before.before.before.requires.2)))
+returns-3 c = let a = c.before.before.before.before.before.args in rw c.enum-told3.given.1 (over_one a.out.now a.at 0xFF (omega (arith, rw c.enum-told3.given.1 at c.before.before.before.before.before.requires.2)))
 
 same-length-4 : tie.Need-same-length-4
 same-length-4 c = search rules
 
 returns-4 : tie.Need-returns-4
-returns-4 c = let a = c.before.before.before.before.before.args in rw c.enum-told4.given.1 (over-one a.out.now a.at 0xFF (omega (arith, rw c.enum-told4.given.1 at c.before.before.before.before.before.requires.2)))
+returns-4 c = let a = c.before.before.before.before.before.args in rw c.enum-told4.given.1 (over_one a.out.now a.at 0xFF (omega (arith, rw c.enum-told4.given.1 at c.before.before.before.before.before.requires.2)))
 
 same-length-5 : tie.Need-same-length-5
 same-length-5 c = search rules
 
 returns-5 : tie.Need-returns-5
-returns-5 c = let a = c.before.before.before.before.before.args in rw c.enum-told5.given.1 (over-one a.out.now a.at 0xFF (omega (arith, rw c.enum-told5.given.1 at c.before.before.before.before.before.requires.2)))
+returns-5 c = let a = c.before.before.before.before.before.args in rw c.enum-told5.given.1 (over_one a.out.now a.at 0xFF (omega (arith, rw c.enum-told5.given.1 at c.before.before.before.before.before.requires.2)))
 
 same-length-6 : tie.Need-same-length-6
 same-length-6 c = search rules
 
 returns-6 : tie.Need-returns-6
-returns-6 c = let a = c.before.before.before.before.before.args in rw c.enum-told6.given.1 (over-one a.out.now a.at 0xFF (omega (arith, rw c.enum-told6.given.1 at c.before.before.before.before.before.requires.2)))
+returns-6 c = let a = c.before.before.before.before.before.args in rw c.enum-told6.given.1 (over_one a.out.now a.at 0xFF (omega (arith, rw c.enum-told6.given.1 at c.before.before.before.before.before.requires.2)))
 
 same-length-7 : tie.Need-same-length-7
 same-length-7 c = search rules
 
 returns-7 : tie.Need-returns-7
-returns-7 c = let a = c.before.before.before.before.before.args in rw c.enum-told7.given.1 (over-one a.out.now a.at 0xFF (omega (arith, rw c.enum-told7.given.1 at c.before.before.before.before.before.requires.2)))
+returns-7 c = let a = c.before.before.before.before.before.args in rw c.enum-told7.given.1 (over_one a.out.now a.at 0xFF (omega (arith, rw c.enum-told7.given.1 at c.before.before.before.before.before.requires.2)))
 
 same-length-8 : tie.Need-same-length-8
 same-length-8 c = search rules
 
 returns-8 : tie.Need-returns-8
-returns-8 c = let a = c.before.before.before.before.before.args in rw c.enum-told8.given.1 (over-one a.out.now a.at 0xFF (omega (arith, rw c.enum-told8.given.1 at c.before.before.before.before.before.requires.2)))
+returns-8 c = let a = c.before.before.before.before.before.args in rw c.enum-told8.given.1 (over_one a.out.now a.at 0xFF (omega (arith, rw c.enum-told8.given.1 at c.before.before.before.before.before.requires.2)))
 
 pub answer-spec : {M : Type 1} → statement M
 answer-spec =

@@ -3,7 +3,7 @@ use mathlib.Core.Path.{◌∙◌, sym, refl}
 use Prim.Native.Nat.{◌^◌}
 use native.Mathlib.Nat.{one-mul, zero-mul, sub-zero}
 use borrow.Author.Rules.{rules}
-use Rattle.card.proofs.Digits.{weight, set-one, set-most}
+use Rattle.card.proofs.Digits.{weight, set_one, set_most}
 use Rattle.card.proofs.without.Statement.{statement}
 use Rattle.card.proofs.without.Tie as tie
 
@@ -20,10 +20,10 @@ shl-result : tie.Need-overflow-shl-result
 shl-result c = search rules
 
 sub-result : tie.Need-overflow-sub-result
-sub-result c = let a = c.before.before.args in rw (weight a.k c.before.before.requires) (set-most a.b a.k (λ e. c.if1.false (c.before.digit.ensures ∙ e)))
+sub-result c = let a = c.before.before.args in rw (weight a.k c.before.before.requires) (set_most a.b a.k (λ e. c.if1.false (c.before.digit.ensures ∙ e)))
 
 returns-2 : tie.Need-returns-2
-returns-2 c = let a = c.before.before.args in rw (weight a.k c.before.before.requires, set-one a.b a.k (λ e. c.if1.false (c.before.digit.ensures ∙ e)), one-mul (2 ^ a.k))
+returns-2 c = let a = c.before.before.args in rw (weight a.k c.before.before.requires, set_one a.b a.k (λ e. c.if1.false (c.before.digit.ensures ∙ e)), one-mul (2 ^ a.k))
 
 pub without-spec : {M : Type 1} → statement M
 without-spec =

@@ -2,7 +2,7 @@
 use mathlib.Core.Path.{ap}
 use borrow.Author.Tests.{le-leb, lt-leb}
 use borrow.Author.Rules.{rules}
-use Rattle.card_face.specs.Face.{faceRun, faceEnd}
+use Rattle.card_face.specs.Face.{face_run, face_end}
 use Rattle.card_face.proofs.sleet_card_run.Statement.{statement}
 use Rattle.card_face.proofs.sleet_card_run.Tie as tie
 
@@ -13,7 +13,7 @@ nothing-requires : tie.Need-nothing-requires
 nothing-requires c κs = search rules
 
 returns : tie.Need-returns
-unfolding faceRun
+unfolding face_run
 returns c = rw (c.nothing.ensures, c.before.refused.ensures, lt-leb _ _ c.before.before.if1.true)
 
 stage-of-requires : tie.Need-stage-of-requires
@@ -35,8 +35,8 @@ same-length-3 : tie.Need-same-length-3
 same-length-3 c = search rules
 
 returns-2 : tie.Need-returns-2
-unfolding faceRun
-returns-2 c = rw (c.answer-of.ensures, le-leb _ _ c.before.before.before.before.before.before.before.before.before.before.before.before.if1.false, ← c.before.before.before.before.before.before.before.before.before.before.before.stage-of.ensures) (ap faceEnd c.before.before.before.before.before.before.before.run.ensures)
+unfolding face_run
+returns-2 c = rw (c.answer-of.ensures, le-leb _ _ c.before.before.before.before.before.before.before.before.before.before.before.before.if1.false, ← c.before.before.before.before.before.before.before.before.before.before.before.stage-of.ensures) (ap face_end c.before.before.before.before.before.before.before.run.ensures)
 
 pub sleet-card-run-spec : {M : Type 1} → statement M
 sleet-card-run-spec =

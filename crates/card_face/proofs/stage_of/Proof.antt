@@ -1,23 +1,23 @@
 -- The stage of a number.
 use borrow.Author.Tests.{ne_eqb}
-use Rattle.card_face.specs.Face.{stageOf}
+use Rattle.card_face.specs.Face.{stage_of}
 use Rattle.card_face.proofs.stage_of.Statement.{statement}
 use Rattle.card_face.proofs.stage_of.Tie as tie
 
 returns : tie.Need-returns
-unfolding stageOf
+unfolding stage_of
 returns c = rw c.match.keys1
 
 returns-2 : tie.Need-returns-2
-unfolding stageOf
+unfolding stage_of
 returns-2 c = rw c.match.keys2
 
 returns-3 : tie.Need-returns-3
-unfolding stageOf
+unfolding stage_of
 returns-3 c = rw c.match.keys3
 
 returns-4 : tie.Need-returns-4
-unfolding stageOf
+unfolding stage_of
 returns-4 c = simp (ne_eqb _ _ c.match.rest.0.0.1, ne_eqb _ _ c.match.rest.0.1, ne_eqb _ _ c.match.rest.1)
 
 pub stage-of-spec : {M : Type 1} → statement M

@@ -2,7 +2,7 @@
 use Prim.Native.Nat.{◌-◌}
 use native.Mathlib.Omega.{arith}
 use lib.ListN.{length}
-use Rattle.copies.proofs.Values.{Reading, none_read, one-read, all_read, three-bytes}
+use Rattle.copies.proofs.Values.{Reading, none_read, one_read, all_read, three_bytes}
 use Rattle.copies.proofs.number.Statement.{statement}
 use Rattle.copies.proofs.number.Tie as tie
 
@@ -21,7 +21,7 @@ sub-i c = omega arith
 mul-n : tie.Need-overflow-mul-n invariant-loop decreases-loop
 mul-n c =
     let l = c.before.loop in
-    omega (arith, c.before.before.requires, l.invariant.small, three-bytes (length c.before.before.args.stretch.now - l.i) (omega (arith, c.before.before.requires)))
+    omega (arith, c.before.before.requires, l.invariant.small, three_bytes (length c.before.before.args.stretch.now - l.i) (omega (arith, c.before.before.requires)))
 
 shared-slice-read-n : tie.Need-shared-slice-read-n invariant-loop decreases-loop
 shared-slice-read-n c = omega (arith, c.before.before.loop.invariant.within)
@@ -36,7 +36,7 @@ add-n c =
       arith,
       c.before.before.before.requires,
       l.invariant.small,
-      three-bytes (length c.before.before.before.args.stretch.now - l.i) (omega (arith, c.before.before.before.requires)),
+      three_bytes (length c.before.before.before.args.stretch.now - l.i) (omega (arith, c.before.before.before.requires)),
       c.shared-slice-known.given (l.i - 1),
     )
 
@@ -44,7 +44,7 @@ loop-less : tie.Need-loop-smaller invariant-loop decreases-loop
 loop-less c = omega arith
 
 loop-again : tie.Need-loop-preserved invariant-loop decreases-loop
-loop-again c = one-read c.before.before.loop.invariant (omega arith) (omega (arith, c.shared-slice-known.given (c.before.before.loop.i - 1)))
+loop-again c = one_read c.before.before.loop.invariant (omega arith) (omega (arith, c.shared-slice-known.given (c.before.before.loop.i - 1)))
 
 returns : tie.Need-returns invariant-loop decreases-loop
 returns c = all_read c.before.loop.invariant (omega arith)

@@ -1,6 +1,6 @@
 -- The four numbers of a copy. Two bytes are below 65,536.
 use native.Mathlib.Omega.{arith}
-use Rattle.copies.proofs.Values.{short-whole}
+use Rattle.copies.proofs.Values.{short_whole}
 use borrow.Author.Rules.{rules}
 use Rattle.copies.proofs.sizes_in.Statement.{statement}
 use Rattle.copies.proofs.sizes_in.Tie as tie
@@ -59,7 +59,7 @@ number-requires-4 c κs = search rules
 returns : tie.Need-returns
 returns c =
     let p = c.before.before.before.before.before.before.before.before.before.args.page.now in
-    rw (c.number4.ensures, c.before.before.number3.ensures, c.before.before.before.before.number2.ensures, c.before.before.before.before.before.before.number.ensures, short-whole p (λ i. omega (arith, c.before.before.before.before.before.before.before.before.shared-slice-known.given i)))
+    rw (c.number4.ensures, c.before.before.number3.ensures, c.before.before.before.before.number2.ensures, c.before.before.before.before.before.before.number.ensures, short_whole p (λ i. omega (arith, c.before.before.before.before.before.before.before.before.shared-slice-known.given i)))
 
 pub sizes-in-spec : {M : Type 1} → statement M
 sizes-in-spec =

@@ -3,13 +3,13 @@ use mathlib.Core.Path.{◌≡◌, refl, sym, ◌∙◌}
 use Prim.Native.Nat.{◌-◌, ◌≤◌}
 use native.Mathlib.Omega.{arith}
 use lib.ListN.{length, drop}
-use Rattle.crc.specs.Crc.{allFed, crcOf}
-use Rattle.crc.proofs.Linear.{two-on, last_on, all_end}
+use Rattle.crc.specs.Crc.{all_fed, crc_of}
+use Rattle.crc.proofs.Linear.{two_on, last_on, all_end}
 use Rattle.crc.proofs.along.Statement.{statement}
 use Rattle.crc.proofs.along.Tie as tie
 
 abbrev invariant-loop : tie.invariant-loop
-invariant-loop table bytes c₀ i₀ c i = (i ≤ length bytes) × (allFed c (drop i bytes) ≡ crcOf bytes)
+invariant-loop table bytes c₀ i₀ c i = (i ≤ length bytes) × (all_fed c (drop i bytes) ≡ crc_of bytes)
 
 abbrev decreases-loop : tie.decreases-loop
 decreases-loop table bytes c₀ i₀ c i = length bytes - i
@@ -42,7 +42,7 @@ loop-again : tie.Need-loop-preserved invariant-loop decreases-loop
 loop-again c =
     let s = c.before.before.before.before.before.before.args.bytes.now in
     let l = c.before.before.before.before.loop in
-    (omega arith, rw c.two-more.ensures (two-on s l.c l.i (omega arith) ∙ l.invariant.1))
+    (omega arith, rw c.two-more.ensures (two_on s l.c l.i (omega arith) ∙ l.invariant.1))
 
 shared-slice-read-one-more : tie.Need-shared-slice-read-one-more invariant-loop decreases-loop
 shared-slice-read-one-more c = omega arith

@@ -1,14 +1,14 @@
 -- The check goes by a right table: the test of its 256 entries is computed here.
 use mathlib.Core.Path.{refl}
 use borrow.Author.Rules.{rules}
-use Rattle.crc.specs.Crc.{bitFed, byteFed}
-use Rattle.crc.proofs.Rule.{every, right, right-table}
+use Rattle.crc.specs.Crc.{bit_fed, byte_fed}
+use Rattle.crc.proofs.Rule.{every, right, right_table}
 use Rattle.crc.proofs.check_of.Statement.{statement}
 use Rattle.crc.proofs.check_of.Tie as tie
 
 along-requires : tie.Need-along-requires
-unfolding every right byteFed bitFed
-along-requires c κs = right-table _ tt refl
+unfolding every right byte_fed bit_fed
+along-requires c κs = right_table _ tt refl
 
 returns : tie.Need-returns
 returns c = search rules

@@ -1,7 +1,7 @@
 -- Eight bits go out by the table's entry for them.
 use Prim.Native.Nat.{◌/◌}
 use native.Mathlib.Omega.{arith}
-use Rattle.crc.proofs.Linear.{by-entry}
+use Rattle.crc.proofs.Linear.{by_entry}
 use borrow.Author.Rules.{rules}
 use Rattle.crc.proofs.moved.Statement.{statement}
 use Rattle.crc.proofs.moved.Tie as tie
@@ -19,7 +19,7 @@ element-copy-out-result : tie.Need-element-copy-out-result
 element-copy-out-result c = search rules
 
 returns : tie.Need-returns
-returns c = rw (c.before.requires.rule (c.before.args.c / 256) (omega arith)) (by-entry c.before.args.c (search rules))
+returns c = rw (c.before.requires.rule (c.before.args.c / 256) (omega arith)) (by_entry c.before.args.c (search rules))
 
 pub moved-spec : {M : Type 1} → statement M
 moved-spec = tie.close (tie.spec cast-n mul-result mul-result-2 element-copy-out-result returns)

@@ -1,8 +1,8 @@
 -- `marked`: its two stretches, one after the other.
 use native.Mathlib.Omega.{arith}
 use borrow.Author.Rules.{rules}
-use Rattle.ecc.specs.Ecc.{marked, dataAt, dataLong, spareAt, spareLong}
-use Rattle.ecc.proofs.Within.{sector-ends, long}
+use Rattle.ecc.specs.Ecc.{marked, data_at, data_long, spare_at, spare_long}
+use Rattle.ecc.proofs.Within.{sector_ends, long}
 use Rattle.ecc.proofs.marked.Statement.{statement}
 use Rattle.ecc.proofs.marked.Tie as tie
 
@@ -12,19 +12,19 @@ sector-at-requires c κs = search rules
 ones-in-requires : tie.Need-ones-in-requires
 ones-in-requires c κs =
     let s = c.before.before in
-    let e = sector-ends s.args.g s.args.j s.requires.0 s.requires.1 in
+    let e = sector_ends s.args.g s.args.j s.requires.0 s.requires.1 in
     rw c.sector-at.ensures (e.0, omega (arith, e.1, s.requires.2), omega (arith, e.1, e.4))
 
 ones-in-requires-2 : tie.Need-ones-in-requires-2
 ones-in-requires-2 c κs =
     let s = c.before.before.before in
-    let e = sector-ends s.args.g s.args.j s.requires.0 s.requires.1 in
+    let e = sector_ends s.args.g s.args.j s.requires.0 s.requires.1 in
     rw c.before.sector-at.ensures (e.2, omega (arith, e.3, s.requires.2), omega (arith, e.3, e.4))
 
 add-result : tie.Need-overflow-add-result
 add-result c =
     let s = c.before.before.before.before in
-    let e = sector-ends s.args.g s.args.j s.requires.0 s.requires.1 in
+    let e = sector_ends s.args.g s.args.j s.requires.0 s.requires.1 in
     omega (arith, e.1, e.3, e.4, rw c.before.before.sector-at.ensures at c.before.ones_in_lem.ensures.1, rw c.before.before.sector-at.ensures at c.ones-in2.ensures.1)
 
 returns : tie.Need-returns
@@ -35,8 +35,8 @@ returns c =
       c.before.ones_in_lem.ensures.0,
       c.ones-in2.ensures.0,
       c.before.before.sector-at.ensures,
-      long (dataAt a.g a.j) (dataLong a.g),
-      long (spareAt a.g a.j) (spareLong a.g),
+      long (data_at a.g a.j) (data_long a.g),
+      long (spare_at a.g a.j) (spare_long a.g),
     )
 
 pub marked-spec : {M : Type 1} → statement M

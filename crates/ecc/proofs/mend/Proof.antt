@@ -2,7 +2,7 @@
 use mathlib.Core.Path.{sym, ◌∙◌}
 use lib.ListN.{get_or}
 use borrow.Author.Tests.{eqb-true}
-use Rattle.ecc.proofs.Unmarked.{zeros-unmarked, zeros-mended}
+use Rattle.ecc.proofs.Unmarked.{zeros_unmarked, zeros_mended}
 use borrow.Author.Rules.{rules}
 use Rattle.ecc.proofs.mend.Statement.{statement}
 use Rattle.ecc.proofs.mend.Tie as tie
@@ -15,7 +15,7 @@ all-zero-requires c κs = search rules
 returns : tie.Need-returns
 returns c =
     let a = c.before.before.before.before.args in
-    zeros-mended a.g (λ j. get_or a.marks.now j 0) a.cache.now (zeros-unmarked a.marks.now (eqb-true _ _ (sym c.before.all-zero.ensures ∙ c.if1.true)))
+    zeros_mended a.g (λ j. get_or a.marks.now j 0) a.cache.now (zeros_unmarked a.marks.now (eqb-true _ _ (sym c.before.all-zero.ensures ∙ c.if1.true)))
 
 mend-all-requires : tie.Need-mend-all-requires
 mend-all-requires c κs = search rules

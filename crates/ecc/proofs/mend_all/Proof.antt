@@ -5,7 +5,7 @@ use native.Mathlib.Omega.{arith}
 use lib.ListN.{get_or}
 use borrow.Author.Rules.{rules}
 use Rattle.ecc.specs.Ecc.{sectors}
-use Rattle.ecc.proofs.Mending.{Mending, mending, mended-one, mended-all}
+use Rattle.ecc.proofs.Mending.{Mending, mending, mended_one, mended_all}
 use Rattle.ecc.proofs.mend_all.Statement.{statement}
 use Rattle.ecc.proofs.mend_all.Tie as tie
 use Rattle.ecc.proofs.eccs.Reads as eccs-reads
@@ -41,7 +41,7 @@ loop-less c = search rules
 
 loop-again : tie.Need-loop-preserved invariant-loop decreases-loop
 loop-again c =
-    mended-one c.before.before.before.before.before.before.loop.invariant (rw (← c.before.before.before.before.before.before.before.sectors.ensures) c.before.before.before.before.before.loop-test.true) (search rules) c.before.before.before.mend-sector.ensures.1
+    mended_one c.before.before.before.before.before.before.loop.invariant (rw (← c.before.before.before.before.before.before.before.sectors.ensures) c.before.before.before.before.before.loop-test.true) (search rules) c.before.before.before.mend-sector.ensures.1
     (rw (← c.before.before.before.mend-sector.ensures.0) c.larger.ensures)
 
 eccs-requires : tie.Need-eccs-requires invariant-loop decreases-loop
@@ -52,7 +52,7 @@ same_length c = c.before.before.loop.invariant.long
 
 returns : tie.Need-returns invariant-loop decreases-loop
 returns c =
-    let e = mended-all c.before.before.loop.invariant (rw (← c.before.before.before.sectors.ensures) c.before.loop-test.false) in
+    let e = mended_all c.before.before.loop.invariant (rw (← c.before.before.before.sectors.ensures) c.before.loop-test.false) in
     (rw (← e.0) c.eccs.ensures, e.1)
 
 pub mend-all-spec : {M : Type 1} → statement M

@@ -2,7 +2,7 @@
 use mathlib.Core.Path.{sym, ◌∙◌}
 use native.Mathlib.Nat.{add-zero, zero-add}
 use native.Mathlib.Omega.{arith}
-use Rattle.ecc.proofs.Within.{sector-few}
+use Rattle.ecc.proofs.Within.{sector_few}
 use borrow.Author.Rules.{rules}
 use Rattle.ecc.proofs.sector_at.Statement.{statement}
 use Rattle.ecc.proofs.sector_at.Tie as tie
@@ -16,7 +16,7 @@ sectored-requires c κs = search rules
 mul-main : tie.Need-overflow-mul-main
 mul-main c =
     let s = c.before.before in
-    omega (arith, sector-few s.args.g s.args.j s.requires.0 s.requires.1)
+    omega (arith, sector_few s.args.g s.args.j s.requires.0 s.requires.1)
 
 wide-requires : tie.Need-wide-requires
 wide-requires c κs = search rules
@@ -24,22 +24,22 @@ wide-requires c κs = search rules
 mul-spare : tie.Need-overflow-mul-spare
 mul-spare c =
     let s = c.before.before.before in
-    omega (arith, sector-few s.args.g s.args.j s.requires.0 s.requires.1)
+    omega (arith, sector_few s.args.g s.args.j s.requires.0 s.requires.1)
 
 add-spare : tie.Need-overflow-add-spare
 add-spare c =
     let s = c.before.before.before in
-    omega (arith, sector-few s.args.g s.args.j s.requires.0 s.requires.1, s.requires.0.small-page, c.wide.ensures)
+    omega (arith, sector_few s.args.g s.args.j s.requires.0 s.requires.1, s.requires.0.small_page, c.wide.ensures)
 
 add-t7 : tie.Need-overflow-add-t7
 add-t7 c =
     let s = c.before.before.before in
-    omega (arith, sector-few s.args.g s.args.j s.requires.0 s.requires.1)
+    omega (arith, sector_few s.args.g s.args.j s.requires.0 s.requires.1)
 
 add-t8 : tie.Need-overflow-add-t8
 add-t8 c =
     let s = c.before.before.before in
-    omega (arith, sector-few s.args.g s.args.j s.requires.0 s.requires.1, s.requires.0.small-page, c.wide.ensures)
+    omega (arith, sector_few s.args.g s.args.j s.requires.0 s.requires.1, s.requires.0.small_page, c.wide.ensures)
 
 returns : tie.Need-returns
 returns c = rw (sym c.before.before.sectored.ensures ∙ c.before.if1.true, c.wide.ensures)

@@ -4,7 +4,7 @@ use Prim.Native.Nat.{◌-◌}
 use native.Mathlib.Omega.{arith}
 use lib.ListN.{length}
 use borrow.Author.Rules.{rules}
-use Rattle.exchange.proofs.Feeding.{Along, along-none, along-bus, along-all, along-part, part-fits}
+use Rattle.exchange.proofs.Feeding.{Along, along_none, along_bus, along_all, along_part, part_fits}
 use Rattle.exchange.proofs.exchanged.Statement.{statement}
 use Rattle.exchange.proofs.exchanged.Tie as tie
 
@@ -18,7 +18,7 @@ oip-requires : tie.Need-oip-requires invariant-loop decreases-loop
 oip-requires c κs = search rules
 
 loop-holds : tie.Need-loop-init invariant-loop decreases-loop
-loop-holds c = along-none c.before.before.before.before.before.before.args.g c.before.before.before.before.before.before.args.s c.before.before.before.before.before.before.args.cache.now c.before.before.before.before.before.before.args.di.now c.before.before.before.before.before.before.args.out.now c.before.before.before.before.before.before.requires
+loop-holds c = along_none c.before.before.before.before.before.before.args.g c.before.before.before.before.before.before.args.s c.before.before.before.before.before.before.args.cache.now c.before.before.before.before.before.before.args.di.now c.before.before.before.before.before.before.args.out.now c.before.before.before.before.before.before.requires
 
 streams-requires : tie.Need-streams-requires invariant-loop decreases-loop
 streams-requires c κs = search rules
@@ -33,25 +33,25 @@ part-streamed-end : tie.Need-slice-bounds-streamed-end invariant-loop decreases-
 part-streamed-end c = omega (arith, c.before.before.before.before.loop.invariant.upto.below)
 
 sub-streamed-2 : tie.Need-overflow-sub-streamed-2 invariant-loop decreases-loop
-sub-streamed-2 c = let h = c.before.before.before.before.before.before.loop.invariant.upto in omega (arith, h.below, h.room, h.out-long)
+sub-streamed-2 c = let h = c.before.before.before.before.before.before.loop.invariant.upto in omega (arith, h.below, h.room, h.out_long)
 
 part-streamed-start-2 : tie.Need-slice-bounds-streamed-start-2 invariant-loop decreases-loop
-part-streamed-start-2 c = let h = c.before.before.before.before.before.before.loop.invariant.upto in omega (arith, h.below, h.room, h.out-long)
+part-streamed-start-2 c = let h = c.before.before.before.before.before.before.loop.invariant.upto in omega (arith, h.below, h.room, h.out_long)
 
 part-streamed-end-2 : tie.Need-slice-bounds-streamed-end-2 invariant-loop decreases-loop
-part-streamed-end-2 c = let h = c.before.before.before.before.before.before.loop.invariant.upto in omega (arith, h.below, h.room, h.out-long)
+part-streamed-end-2 c = let h = c.before.before.before.before.before.before.loop.invariant.upto in omega (arith, h.below, h.room, h.out_long)
 
 streamed-requires : tie.Need-streamed-requires invariant-loop decreases-loop
-streamed-requires c κs = (sym c.before.before.before.before.before.streams.ensures ∙ c.before.before.before.before.if1.true, part-fits c.before.before.before.before.before.before.before.loop.invariant.upto)
+streamed-requires c κs = (sym c.before.before.before.before.before.streams.ensures ∙ c.before.before.before.before.if1.true, part_fits c.before.before.before.before.before.before.before.loop.invariant.upto)
 
 same_length : tie.Need-same-length invariant-loop decreases-loop
-same_length c = c.before.before.before.before.streamed.auto.1.1.1.0 ∙ c.before.before.before.before.before.before.before.before.before.before.before.before.loop.invariant.cache-long
+same_length c = c.before.before.before.before.streamed.auto.1.1.1.0 ∙ c.before.before.before.before.before.before.before.before.before.before.before.before.loop.invariant.cache_long
 
 same-length-2 : tie.Need-same-length-2 invariant-loop decreases-loop
-same-length-2 c = search (rules, c.before.before.before.before.before.before.before.before.before.before.before.before.loop.invariant.upto.out-long)
+same-length-2 c = search (rules, c.before.before.before.before.before.before.before.before.before.before.before.before.loop.invariant.upto.out_long)
 
 returns : tie.Need-returns invariant-loop decreases-loop
-returns c = along-part c.before.before.before.before.before.before.before.before.before.before.before.before.loop.invariant _ _ _ c.before.before.before.before.streamed.ensures
+returns c = along_part c.before.before.before.before.before.before.before.before.before.before.before.before.loop.invariant _ _ _ c.before.before.before.before.streamed.ensures
 
 shared-slice-read-b : tie.Need-shared-slice-read-b invariant-loop decreases-loop
 shared-slice-read-b c = search rules
@@ -60,7 +60,7 @@ byte-out-requires : tie.Need-byte-out-requires invariant-loop decreases-loop
 byte-out-requires c κs = search rules
 
 slice-write-out : tie.Need-slice-write-out invariant-loop decreases-loop
-slice-write-out c = let h = c.before.before.before.before.before.before.loop.invariant.upto in omega (arith, c.before.before.before.before.before.loop-test.true, h.room, h.out-long)
+slice-write-out c = let h = c.before.before.before.before.before.before.loop.invariant.upto in omega (arith, c.before.before.before.before.before.loop-test.true, h.room, h.out_long)
 
 caches-requires : tie.Need-caches-requires invariant-loop decreases-loop
 caches-requires c κs = search rules
@@ -76,16 +76,16 @@ loop-less c = search rules
 
 loop-again : tie.Need-loop-preserved invariant-loop decreases-loop
 loop-again c =
-    along-bus c.before.before.before.before.before.before.before.before.before.before.before.loop.invariant c.before.before.before.before.before.before.before.before.before.before.before.before.before.oip.result _ _ _ c.before.before.before.before.before.before.before.before.before.before.loop-test.true c.before.before.before.caches.auto.1.1.1.0 c.before.before.before.before.before.before.before.before.before.before.before.before.before.oip.ensures c.shifted_in.ensures c.before.before.before.caches.ensures c.before.before.before.before.before.byte-out.ensures
+    along_bus c.before.before.before.before.before.before.before.before.before.before.before.loop.invariant c.before.before.before.before.before.before.before.before.before.before.before.before.before.oip.result _ _ _ c.before.before.before.before.before.before.before.before.before.before.loop-test.true c.before.before.before.caches.auto.1.1.1.0 c.before.before.before.before.before.before.before.before.before.before.before.before.before.oip.ensures c.shifted_in.ensures c.before.before.before.caches.ensures c.before.before.before.before.before.byte-out.ensures
 
 same-length-3 : tie.Need-same-length-3 invariant-loop decreases-loop
-same-length-3 c = c.before.before.loop.invariant.cache-long
+same-length-3 c = c.before.before.loop.invariant.cache_long
 
 same-length-4 : tie.Need-same-length-4 invariant-loop decreases-loop
-same-length-4 c = c.before.before.loop.invariant.upto.out-long
+same-length-4 c = c.before.before.loop.invariant.upto.out_long
 
 returns-2 : tie.Need-returns-2 invariant-loop decreases-loop
-returns-2 c = along-all c.before.before.loop.invariant (omega (arith, c.before.loop-test.false))
+returns-2 c = along_all c.before.before.loop.invariant (omega (arith, c.before.loop-test.false))
 
 pub exchanged-spec : {M : Type 1} → statement M
 exchanged-spec =

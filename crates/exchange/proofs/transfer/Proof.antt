@@ -7,10 +7,10 @@ use borrow.Author.Rules.{rules}
 use Rattle.buslog.specs.Log.{written}
 use Rattle.device.specs.Machine.{machine}
 use Rattle.device.specs.Work.{unitwise}
-use Rattle.refusals.proofs.Checked.{sound-as, passed-no, passed-yes}
-use Rattle.model.proofs.Single.{run-refused}
-use Rattle.exchange.specs.Exchange.{transferOf, unlogged}
-use Rattle.exchange.proofs.Records.{transfer-stops, transfer-ends, selected-sound}
+use Rattle.refusals.proofs.Checked.{sound_as, passed_no, passed_yes}
+use Rattle.model.proofs.Single.{run_refused}
+use Rattle.exchange.specs.Exchange.{transfer_of, unlogged}
+use Rattle.exchange.proofs.Records.{transfer_stops, transfer_ends, selected_sound}
 use Rattle.exchange.proofs.transfer.Statement.{statement}
 use Rattle.exchange.proofs.transfer.Tie as tie
 
@@ -29,7 +29,7 @@ so-far-requires c κs = search rules
 returns : tie.Need-returns
 returns c =
     rw (c.so_far.ensures, c.before.start.ensures)
-    (ap unlogged (run-refused c.before.before.before.before.before.before.before.before.before.before.args.g (unitwise c.before.before.before.before.before.before.before.before.before.before.args.g) c.before.before.before.before.before.before.before.before.before.before.args.out.now (machine c.before.before.before.before.before.before.before.before.before.before.args.state c.before.before.before.before.before.before.before.before.before.before.args.cells.now c.before.before.before.before.before.before.before.before.before.before.args.cache.now c.before.before.before.before.before.before.before.before.before.before.args.counts.now) (length c.before.before.before.before.before.before.before.before.before.before.args.out.now) (written (transferOf c.before.before.before.before.before.before.before.before.before.before.args.di.now)) c.before.before.before.before.check.result c.before.before.before.before.check.ensures (passed-no c.before.before.before.before.check.result _ c.before.before.before.passes.ensures c.before.before.if1.true)))
+    (ap unlogged (run_refused c.before.before.before.before.before.before.before.before.before.before.args.g (unitwise c.before.before.before.before.before.before.before.before.before.before.args.g) c.before.before.before.before.before.before.before.before.before.before.args.out.now (machine c.before.before.before.before.before.before.before.before.before.before.args.state c.before.before.before.before.before.before.before.before.before.before.args.cells.now c.before.before.before.before.before.before.before.before.before.before.args.cache.now c.before.before.before.before.before.before.before.before.before.before.args.counts.now) (length c.before.before.before.before.before.before.before.before.before.before.args.out.now) (written (transfer_of c.before.before.before.before.before.before.before.before.before.before.args.di.now)) c.before.before.before.before.check.result c.before.before.before.before.check.ensures (passed_no c.before.before.before.before.check.result _ c.before.before.before.passes.ensures c.before.before.if1.true)))
 
 least-requires : tie.Need-least-requires
 least-requires c κs = search rules
@@ -60,15 +60,15 @@ same-length-2 c = search rules
 
 returns-2 : tie.Need-returns-2
 returns-2 c =
-    transfer-stops c.before.before.before.before.before.before.before.before.before.before.before.before.before.before.before.before.before.before.before.args.g (unitwise c.before.before.before.before.before.before.before.before.before.before.before.before.before.before.before.before.before.before.before.args.g) (machine c.before.before.before.before.before.before.before.before.before.before.before.before.before.before.before.before.before.before.before.args.state c.before.before.before.before.before.before.before.before.before.before.before.before.before.before.before.before.before.before.before.args.cells.now c.before.before.before.before.before.before.before.before.before.before.before.before.before.before.before.before.before.before.before.args.cache.now c.before.before.before.before.before.before.before.before.before.before.before.before.before.before.before.before.before.before.before.args.counts.now) c.before.before.before.before.before.before.before.before.before.before.before.before.before.before.before.before.before.before.before.args.di.now c.before.before.before.before.before.before.before.before.before.before.before.before.before.before.before.before.before.before.before.args.out.now c.before.before.before.before.before.before.before.before.before.before.before.before.before.check.result c.before.before.before.before.before.before.before.before.before.before.before.before.before.check.ensures
-    (passed-yes c.before.before.before.before.before.before.before.before.before.before.before.before.before.check.result _ c.before.before.before.before.before.before.before.before.before.before.before.before.passes.ensures c.before.before.before.before.before.before.before.before.before.before.before.if1.false) c.before.before.before.before.before.before.before.before.before.before.least.result c.before.before.before.before.before.before.before.before.before.before.least.ensures c.before.before.before.before.before.exchanged.result c.before.before.before.before.before.exchanged.new.1.1.1.0 c.before.before.before.before.before.exchanged.new.1.1.1.1.0
+    transfer_stops c.before.before.before.before.before.before.before.before.before.before.before.before.before.before.before.before.before.before.before.args.g (unitwise c.before.before.before.before.before.before.before.before.before.before.before.before.before.before.before.before.before.before.before.args.g) (machine c.before.before.before.before.before.before.before.before.before.before.before.before.before.before.before.before.before.before.before.args.state c.before.before.before.before.before.before.before.before.before.before.before.before.before.before.before.before.before.before.before.args.cells.now c.before.before.before.before.before.before.before.before.before.before.before.before.before.before.before.before.before.before.before.args.cache.now c.before.before.before.before.before.before.before.before.before.before.before.before.before.before.before.before.before.before.before.args.counts.now) c.before.before.before.before.before.before.before.before.before.before.before.before.before.before.before.before.before.before.before.args.di.now c.before.before.before.before.before.before.before.before.before.before.before.before.before.before.before.before.before.before.before.args.out.now c.before.before.before.before.before.before.before.before.before.before.before.before.before.check.result c.before.before.before.before.before.before.before.before.before.before.before.before.before.check.ensures
+    (passed_yes c.before.before.before.before.before.before.before.before.before.before.before.before.before.check.result _ c.before.before.before.before.before.before.before.before.before.before.before.before.passes.ensures c.before.before.before.before.before.before.before.before.before.before.before.if1.false) c.before.before.before.before.before.before.before.before.before.before.least.result c.before.before.before.before.before.before.before.before.before.before.least.ensures c.before.before.before.before.before.exchanged.result c.before.before.before.before.before.exchanged.new.1.1.1.0 c.before.before.before.before.before.exchanged.new.1.1.1.1.0
     (rw c.before.before.before.before.before.before.before.before.before.select.ensures at c.before.before.before.before.before.exchanged.ensures) (omega (arith, c.if2.true))
 
 turn-requires : tie.Need-turn-requires
 turn-requires c κs =
-    let h = (sound-as c.before.before.before.before.before.before.before.before.before.before.before.before.before.before.before.before.before.before.before.before.before.before.before.args.g (machine c.before.before.before.before.before.before.before.before.before.before.before.before.before.before.before.before.before.before.before.before.before.before.before.args.state c.before.before.before.before.before.before.before.before.before.before.before.before.before.before.before.before.before.before.before.before.before.before.before.args.cells.now c.before.before.before.before.before.before.before.before.before.before.before.before.before.before.before.before.before.before.before.before.before.before.before.args.cache.now c.before.before.before.before.before.before.before.before.before.before.before.before.before.before.before.before.before.before.before.before.before.before.before.args.counts.now) c.before.before.before.before.before.before.before.before.before.before.before.before.before.before.before.before.before.check.result c.before.before.before.before.before.before.before.before.before.before.before.before.before.before.before.before.before.check.ensures (passed-yes c.before.before.before.before.before.before.before.before.before.before.before.before.before.before.before.before.before.check.result _ c.before.before.before.before.before.before.before.before.before.before.before.before.before.before.before.before.passes.ensures c.before.before.before.before.before.before.before.before.before.before.before.before.before.before.before.if1.false)) in (
+    let h = (sound_as c.before.before.before.before.before.before.before.before.before.before.before.before.before.before.before.before.before.before.before.before.before.before.before.args.g (machine c.before.before.before.before.before.before.before.before.before.before.before.before.before.before.before.before.before.before.before.before.before.before.before.args.state c.before.before.before.before.before.before.before.before.before.before.before.before.before.before.before.before.before.before.before.before.before.before.before.args.cells.now c.before.before.before.before.before.before.before.before.before.before.before.before.before.before.before.before.before.before.before.before.before.before.before.args.cache.now c.before.before.before.before.before.before.before.before.before.before.before.before.before.before.before.before.before.before.before.before.before.before.before.args.counts.now) c.before.before.before.before.before.before.before.before.before.before.before.before.before.before.before.before.before.check.result c.before.before.before.before.before.before.before.before.before.before.before.before.before.before.before.before.before.check.ensures (passed_yes c.before.before.before.before.before.before.before.before.before.before.before.before.before.before.before.before.before.check.result _ c.before.before.before.before.before.before.before.before.before.before.before.before.before.before.before.before.passes.ensures c.before.before.before.before.before.before.before.before.before.before.before.before.before.before.before.if1.false)) in (
       h.0,
-      selected-sound c.before.before.before.before.before.before.before.before.before.before.before.before.before.before.before.before.before.before.before.before.before.before.before.args.g h.0 (machine c.before.before.before.before.before.before.before.before.before.before.before.before.before.before.before.before.before.before.before.before.before.before.before.args.state c.before.before.before.before.before.before.before.before.before.before.before.before.before.before.before.before.before.before.before.before.before.before.before.args.cells.now c.before.before.before.before.before.before.before.before.before.before.before.before.before.before.before.before.before.before.before.before.before.before.before.args.cache.now c.before.before.before.before.before.before.before.before.before.before.before.before.before.before.before.before.before.before.before.before.before.before.before.args.counts.now) (c.before.before.before.before.before.before.before.before.before.before.before.before.before.before.least.result - 0) c.before.before.before.before.before.before.before.before.before.before.before.before.before.before.before.before.before.before.before.before.before.before.before.args.di.now c.before.before.before.before.before.before.before.before.before.before.before.before.before.before.before.before.before.before.before.before.before.before.before.args.out.now (λ i. omega (arith, c.before.before.before.before.before.before.before.before.before.before.before.before.before.before.before.before.before.before.before.before.before.before.shared-slice-known.given i)) _ _ _ h.1 (rw c.before.before.before.before.before.before.before.before.before.before.before.before.before.select.ensures at c.before.before.before.before.before.before.before.before.before.exchanged.ensures),
+      selected_sound c.before.before.before.before.before.before.before.before.before.before.before.before.before.before.before.before.before.before.before.before.before.before.before.args.g h.0 (machine c.before.before.before.before.before.before.before.before.before.before.before.before.before.before.before.before.before.before.before.before.before.before.before.args.state c.before.before.before.before.before.before.before.before.before.before.before.before.before.before.before.before.before.before.before.before.before.before.before.args.cells.now c.before.before.before.before.before.before.before.before.before.before.before.before.before.before.before.before.before.before.before.before.before.before.before.args.cache.now c.before.before.before.before.before.before.before.before.before.before.before.before.before.before.before.before.before.before.before.before.before.before.before.args.counts.now) (c.before.before.before.before.before.before.before.before.before.before.before.before.before.before.least.result - 0) c.before.before.before.before.before.before.before.before.before.before.before.before.before.before.before.before.before.before.before.before.before.before.before.args.di.now c.before.before.before.before.before.before.before.before.before.before.before.before.before.before.before.before.before.before.before.before.before.before.before.args.out.now (λ i. omega (arith, c.before.before.before.before.before.before.before.before.before.before.before.before.before.before.before.before.before.before.before.before.before.before.shared-slice-known.given i)) _ _ _ h.1 (rw c.before.before.before.before.before.before.before.before.before.before.before.before.before.select.ensures at c.before.before.before.before.before.before.before.before.before.exchanged.ensures),
       omega (arith, c.before.before.before.before.before.before.before.before.before.before.before.before.before.before.least.ensures, c.before.before.before.before.before.before.before.before.before.exchanged.auto.1.1.1.1.0),
     )
 
@@ -89,8 +89,8 @@ same-length-6 c = search rules
 
 returns-3 : tie.Need-returns-3
 returns-3 c =
-    transfer-ends c.before.before.before.before.before.before.before.before.before.before.before.before.before.before.before.before.before.before.before.before.before.before.before.before.before.before.before.before.before.before.before.before.args.g (unitwise c.before.before.before.before.before.before.before.before.before.before.before.before.before.before.before.before.before.before.before.before.before.before.before.before.before.before.before.before.before.before.before.before.args.g) (machine c.before.before.before.before.before.before.before.before.before.before.before.before.before.before.before.before.before.before.before.before.before.before.before.before.before.before.before.before.before.before.before.before.args.state c.before.before.before.before.before.before.before.before.before.before.before.before.before.before.before.before.before.before.before.before.before.before.before.before.before.before.before.before.before.before.before.before.args.cells.now c.before.before.before.before.before.before.before.before.before.before.before.before.before.before.before.before.before.before.before.before.before.before.before.before.before.before.before.before.before.before.before.before.args.cache.now c.before.before.before.before.before.before.before.before.before.before.before.before.before.before.before.before.before.before.before.before.before.before.before.before.before.before.before.before.before.before.before.before.args.counts.now) c.before.before.before.before.before.before.before.before.before.before.before.before.before.before.before.before.before.before.before.before.before.before.before.before.before.before.before.before.before.before.before.before.args.di.now c.before.before.before.before.before.before.before.before.before.before.before.before.before.before.before.before.before.before.before.before.before.before.before.before.before.before.before.before.before.before.before.before.args.out.now c.before.before.before.before.before.before.before.before.before.before.before.before.before.before.before.before.before.before.before.before.before.before.before.before.before.before.check.result c.before.before.before.before.before.before.before.before.before.before.before.before.before.before.before.before.before.before.before.before.before.before.before.before.before.before.check.ensures
-    (passed-yes c.before.before.before.before.before.before.before.before.before.before.before.before.before.before.before.before.before.before.before.before.before.before.before.before.before.before.check.result _ c.before.before.before.before.before.before.before.before.before.before.before.before.before.before.before.before.before.before.before.before.before.before.before.before.before.passes.ensures c.before.before.before.before.before.before.before.before.before.before.before.before.before.before.before.before.before.before.before.before.before.before.before.before.if1.false) c.before.before.before.before.before.before.before.before.before.before.before.before.before.before.before.before.before.before.before.before.before.before.before.least.result c.before.before.before.before.before.before.before.before.before.before.before.before.before.before.before.before.before.before.before.before.before.before.before.least.ensures c.before.before.before.before.before.before.before.before.before.before.before.before.before.before.before.before.before.before.exchanged.result c.before.before.before.before.before.before.before.before.before.before.before.before.before.before.before.before.before.before.exchanged.new.1.1.1.0 c.before.before.before.before.before.before.before.before.before.before.before.before.before.before.before.before.before.before.exchanged.new.1.1.1.1.0
+    transfer_ends c.before.before.before.before.before.before.before.before.before.before.before.before.before.before.before.before.before.before.before.before.before.before.before.before.before.before.before.before.before.before.before.before.args.g (unitwise c.before.before.before.before.before.before.before.before.before.before.before.before.before.before.before.before.before.before.before.before.before.before.before.before.before.before.before.before.before.before.before.before.args.g) (machine c.before.before.before.before.before.before.before.before.before.before.before.before.before.before.before.before.before.before.before.before.before.before.before.before.before.before.before.before.before.before.before.before.args.state c.before.before.before.before.before.before.before.before.before.before.before.before.before.before.before.before.before.before.before.before.before.before.before.before.before.before.before.before.before.before.before.before.args.cells.now c.before.before.before.before.before.before.before.before.before.before.before.before.before.before.before.before.before.before.before.before.before.before.before.before.before.before.before.before.before.before.before.before.args.cache.now c.before.before.before.before.before.before.before.before.before.before.before.before.before.before.before.before.before.before.before.before.before.before.before.before.before.before.before.before.before.before.before.before.args.counts.now) c.before.before.before.before.before.before.before.before.before.before.before.before.before.before.before.before.before.before.before.before.before.before.before.before.before.before.before.before.before.before.before.before.args.di.now c.before.before.before.before.before.before.before.before.before.before.before.before.before.before.before.before.before.before.before.before.before.before.before.before.before.before.before.before.before.before.before.before.args.out.now c.before.before.before.before.before.before.before.before.before.before.before.before.before.before.before.before.before.before.before.before.before.before.before.before.before.before.check.result c.before.before.before.before.before.before.before.before.before.before.before.before.before.before.before.before.before.before.before.before.before.before.before.before.before.before.check.ensures
+    (passed_yes c.before.before.before.before.before.before.before.before.before.before.before.before.before.before.before.before.before.before.before.before.before.before.before.before.before.before.check.result _ c.before.before.before.before.before.before.before.before.before.before.before.before.before.before.before.before.before.before.before.before.before.before.before.before.before.passes.ensures c.before.before.before.before.before.before.before.before.before.before.before.before.before.before.before.before.before.before.before.before.before.before.before.before.if1.false) c.before.before.before.before.before.before.before.before.before.before.before.before.before.before.before.before.before.before.before.before.before.before.before.least.result c.before.before.before.before.before.before.before.before.before.before.before.before.before.before.before.before.before.before.before.before.before.before.before.least.ensures c.before.before.before.before.before.before.before.before.before.before.before.before.before.before.before.before.before.before.exchanged.result c.before.before.before.before.before.before.before.before.before.before.before.before.before.before.before.before.before.before.exchanged.new.1.1.1.0 c.before.before.before.before.before.before.before.before.before.before.before.before.before.before.before.before.before.before.exchanged.new.1.1.1.1.0
     (rw c.before.before.before.before.before.before.before.before.before.before.before.before.before.before.before.before.before.before.before.before.before.before.select.ensures at c.before.before.before.before.before.before.before.before.before.before.before.before.before.before.before.before.before.before.exchanged.ensures) (omega (arith, c.before.before.before.before.before.before.before.before.before.before.before.before.before.if2.false)) _ _ c.before.before.before.before.before.before.before.before.turn.ensures.0 c.before.before.before.before.before.before.before.before.turn.ensures.1
 
 pub transfer-spec : {M : Type 1} → statement M

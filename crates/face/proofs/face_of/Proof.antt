@@ -1,6 +1,6 @@
 -- The numbers of a state, idle or busy.
 use borrow.Author.Rules.{rules}
-use Rattle.face.specs.Face.{faceOf}
+use Rattle.face.specs.Face.{face_of}
 use Rattle.face.proofs.face_of.Statement.{statement}
 use Rattle.face.proofs.face_of.Tie as tie
 
@@ -17,11 +17,11 @@ faced-job-requires : tie.Need-faced-job-requires
 faced-job-requires c κs = search rules
 
 returns : tie.Need-returns
-unfolding faceOf
+unfolding face_of
 returns c = rw (c.faced.ensures, c.before.enum_told.given.1)
 
 returns-2 : tie.Need-returns-2
-unfolding faceOf
+unfolding face_of
 returns-2 c = rw (c.faced-job.ensures, c.before.before.w.given.1)
 
 pub face-of-spec : {M : Type 1} → statement M

@@ -2,7 +2,7 @@
 use native.Mathlib.Omega.{arith}
 use mathlib.Core.Path.{◌≡◌, ◌∙◌, ap}
 use Rattle.lines.specs.Lines.{places, end_of}
-use Rattle.lines.proofs.Laid.{places-most, length-end, short, end-laid}
+use Rattle.lines.proofs.Laid.{places_most, length_end, short, end_laid}
 use borrow.Author.Rules.{rules}
 use Rattle.lines.proofs.end_line.Statement.{statement}
 use Rattle.lines.proofs.end_line.Tie as tie
@@ -14,25 +14,25 @@ places-of-requires : tie.Need-places-of-requires
 places-of-requires c κs = search rules
 
 add-k : tie.Need-overflow-add-k
-add-k c = omega (arith, c.places_of.ensures, places-most c.before.wide.result)
+add-k c = omega (arith, c.places_of.ensures, places_most c.before.wide.result)
 
 add-k-2 : tie.Need-overflow-add-k-2
-add-k-2 c = omega (arith, c.places_of.ensures, places-most c.before.wide.result)
+add-k-2 c = omega (arith, c.places_of.ensures, places_most c.before.wide.result)
 
 places-of-requires-2 : tie.Need-places-of-requires-2
 places-of-requires-2 c κs = search rules
 
 add-n : tie.Need-overflow-add-n
-add-n c = omega (arith, c.before.places_of.ensures, places-most c.before.before.wide.result, c.places-of2.ensures, places-most c.before.before.before.before.args.records)
+add-n c = omega (arith, c.before.places_of.ensures, places_most c.before.before.wide.result, c.places-of2.ensures, places_most c.before.before.before.before.args.records)
 
 add-n-2 : tie.Need-overflow-add-n-2
-add-n-2 c = omega (arith, c.before.places_of.ensures, places-most c.before.before.wide.result, c.places-of2.ensures, places-most c.before.before.before.before.args.records)
+add-n-2 c = omega (arith, c.before.places_of.ensures, places_most c.before.before.wide.result, c.places-of2.ensures, places_most c.before.before.before.before.args.records)
 
 returns : tie.Need-returns
 returns c =
     let a = c.before.before.before.before.before.args in
     let e : c.before.before.places_of.result ≡ places c.before.before.before.before.before.args.refusal = c.before.before.places_of.ensures ∙ ap places c.before.before.before.wide.ensures in
-    short (end_of a.refusal a.records) a.out.now _ (length-end a.refusal a.records ∙ rw (e, c.before.places-of2.ensures)) c.if1.true
+    short (end_of a.refusal a.records) a.out.now _ (length_end a.refusal a.records ∙ rw (e, c.before.places-of2.ensures)) c.if1.true
 
 sub-store-word : tie.Need-overflow-sub-store-word
 sub-store-word c = search rules
@@ -77,7 +77,7 @@ returns-2 : tie.Need-returns-2
 returns-2 c =
     let a = c.before.before.before.before.before.before.before.before.before.before.before.before.before.before.before.before.before.args in
     let e : c.before.before.before.before.before.before.before.before.before.before.before.before.before.before.places_of.result ≡ places c.before.before.before.before.before.before.before.before.before.before.before.before.before.before.before.before.before.args.refusal = c.before.before.before.before.before.before.before.before.before.before.before.before.before.before.places_of.ensures ∙ ap places c.before.before.before.before.before.before.before.before.before.before.before.before.before.before.before.wide.ensures in
-    end-laid a.out.now _ _ _ c.before.before.before.before.before.before.before.before.before.before.before.before.before.before.places_of.result c.before.before.before.before.before.before.before.before.before.before.before.before.before.places-of2.result a.refusal a.records e c.before.before.before.before.before.before.before.before.before.before.before.before.before.places-of2.ensures c.before.before.before.before.before.before.before.before.before.before.before.before.if1.false c.before.before.before.before.before.before.before.before.before.before.Store-word.ensures (rw c.before.before.before.before.before.before.before.before.before.before.before.before.before.before.before.wide.ensures at c.before.before.before.before.before.before.store-number.ensures) c.before.before.store-number2.ensures
+    end_laid a.out.now _ _ _ c.before.before.before.before.before.before.before.before.before.before.before.before.before.before.places_of.result c.before.before.before.before.before.before.before.before.before.before.before.before.before.places-of2.result a.refusal a.records e c.before.before.before.before.before.before.before.before.before.before.before.before.before.places-of2.ensures c.before.before.before.before.before.before.before.before.before.before.before.before.if1.false c.before.before.before.before.before.before.before.before.before.before.Store-word.ensures (rw c.before.before.before.before.before.before.before.before.before.before.before.before.before.before.before.wide.ensures at c.before.before.before.before.before.before.store-number.ensures) c.before.before.store-number2.ensures
 
 pub end-line-spec : {M : Type 1} → statement M
 end-line-spec =

@@ -1,6 +1,6 @@
 -- The test d < 10 is the definition's own.
 use borrow.Author.Tests.{lt-ltb, le-ltb}
-use Rattle.lines.specs.Lines.{hexDigit}
+use Rattle.lines.specs.Lines.{hex_digit}
 use borrow.Author.Rules.{rules}
 use Rattle.lines.proofs.hex_digit.Statement.{statement}
 use Rattle.lines.proofs.hex_digit.Tie as tie
@@ -9,14 +9,14 @@ add-result : tie.Need-overflow-add-result
 add-result c = search rules
 
 returns : tie.Need-returns
-unfolding hexDigit
+unfolding hex_digit
 returns c = rw (lt-ltb _ _ c.if1.true)
 
 add-result-2 : tie.Need-overflow-add-result-2
 add-result-2 c = search rules
 
 returns-2 : tie.Need-returns-2
-unfolding hexDigit
+unfolding hex_digit
 returns-2 c = rw (le-ltb _ _ c.if1.false)
 
 pub hex-digit-spec : {M : Type 1} → statement M

@@ -1,8 +1,8 @@
 -- The room, and then the number and the fields, one behind the other.
 use native.Mathlib.Omega.{arith}
 use mathlib.Core.Path.{◌∙◌}
-use Rattle.lines.specs.Lines.{doOf, line_of}
-use Rattle.lines.proofs.Laid.{places-most, length-line, short, line-laid}
+use Rattle.lines.specs.Lines.{do_of, line_of}
+use Rattle.lines.proofs.Laid.{places_most, length_line, short, line_laid}
 use borrow.Author.Rules.{rules}
 use Rattle.lines.proofs.record_line.Statement.{statement}
 use Rattle.lines.proofs.record_line.Tie as tie
@@ -11,16 +11,16 @@ places-of-requires : tie.Need-places-of-requires
 places-of-requires c κs = search rules
 
 add-k : tie.Need-overflow-add-k
-add-k c = omega (arith, c.places_of.ensures, places-most c.before.before.args.number)
+add-k c = omega (arith, c.places_of.ensures, places_most c.before.before.args.number)
 
 add-n : tie.Need-overflow-add-n
-add-n c = omega (arith, c.places_of.ensures, places-most c.before.before.args.number)
+add-n c = omega (arith, c.places_of.ensures, places_most c.before.before.args.number)
 
 returns : tie.Need-returns
 returns c =
     let a = c.before.before.before.args in
-    let o = doOf a.e a.d in
-    short (line_of a.number a.e o a.status) a.out.now _ (length-line a.number a.e o a.status ∙ rw c.before.places_of.ensures) c.if1.true
+    let o = do_of a.e a.d in
+    short (line_of a.number a.e o a.status) a.out.now _ (length_line a.number a.e o a.status ∙ rw c.before.places_of.ensures) c.if1.true
 
 sub-store-number : tie.Need-overflow-sub-store-number
 sub-store-number c = search rules
@@ -52,7 +52,7 @@ same_length c = search rules
 returns-2 : tie.Need-returns-2
 returns-2 c =
     let a = c.before.before.before.before.before.before.before.before.before.before.before.args in
-    line-laid a.out.now _ _ c.before.before.before.before.before.before.before.before.before.places_of.result a.number a.e (doOf a.e a.d) a.status c.before.before.before.before.before.before.before.before.before.places_of.ensures c.before.before.before.before.before.before.before.before.if1.false c.before.before.before.before.before.before.store-number.ensures c.before.before.store-fields.ensures
+    line_laid a.out.now _ _ c.before.before.before.before.before.before.before.before.before.places_of.result a.number a.e (do_of a.e a.d) a.status c.before.before.before.before.before.before.before.before.before.places_of.ensures c.before.before.before.before.before.before.before.before.if1.false c.before.before.before.before.before.before.store-number.ensures c.before.before.store-fields.ensures
 
 pub record-line-spec : {M : Type 1} → statement M
 record-line-spec =

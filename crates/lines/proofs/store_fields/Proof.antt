@@ -4,7 +4,7 @@ use mathlib.Core.Path.{◌∙◌}
 use native.Mathlib.Omega.{arith}
 use lib.ListN.{length-set}
 use Rattle.lines.specs.Lines.{fields_of}
-use Rattle.lines.proofs.Texts.{sets-all}
+use Rattle.lines.proofs.Texts.{sets_all}
 use borrow.Author.Rules.{rules}
 use Rattle.lines.proofs.store_fields.Statement.{statement}
 use Rattle.lines.proofs.store_fields.Tie as tie
@@ -47,7 +47,7 @@ same_length c = search rules
 
 returns : tie.Need-returns
 unfolding fields_of
-returns c = sets-all (c.letter.result ∷ 32 ∷ c.before.before.do-pair.result.0 ∷ c.before.before.do-pair.result.1 ∷ 32 ∷ c.before.hex-pair.result.0 ∷ c.before.hex-pair.result.1 ∷ 10 ∷ []) c.before.before.before.before.args.out.now c.before.before.before.before.requires
+returns c = sets_all (c.letter.result ∷ 32 ∷ c.before.before.do-pair.result.0 ∷ c.before.before.do-pair.result.1 ∷ 32 ∷ c.before.hex-pair.result.0 ∷ c.before.hex-pair.result.1 ∷ 10 ∷ []) c.before.before.before.before.args.out.now c.before.before.before.before.requires
     ∙ rw (← c.before.before.do-pair.ensures, ← c.before.hex-pair.ensures, c.letter.ensures)
 
 pub store-fields-spec : {M : Type 1} → statement M

@@ -5,7 +5,7 @@ use Prim.Native.Nat.{ℕ, ◌+◌, ◌<◌, ◌-◌}
 use native.Mathlib.Omega.{arith}
 use lib.ListN.{length, drop, length-set}
 use Rattle.lines.specs.Lines.{digits}
-use Rattle.lines.proofs.Texts.{drop-last, digits_more}
+use Rattle.lines.proofs.Texts.{drop_last, digits_more}
 use Rattle.lines.proofs.store_number.Statement.{statement}
 use Rattle.lines.proofs.store_number.Tie as tie
 
@@ -25,7 +25,7 @@ loop-holds : tie.Need-loop-init invariant-loop decreases-loop
 loop-holds c =
     let l = c.before.args.out.now in
     let w : 0 < length c.before.args.out.now = omega arith in
-    (simp length-set (omega arith), refl, simp length-set (rw (drop-last l c.before.args.last w)))
+    (simp length-set (omega arith), refl, simp length-set (rw (drop_last l c.before.args.last w)))
 
 sub-i-2 : tie.Need-overflow-sub-i-2 invariant-loop decreases-loop
 sub-i-2 c = omega arith

@@ -1,6 +1,6 @@
 -- Four stores, one behind another.
 use Rattle.lines.specs.Lines.{word}
-use Rattle.lines.proofs.Texts.{sets-all}
+use Rattle.lines.proofs.Texts.{sets_all}
 use borrow.Author.Rules.{rules}
 use Rattle.lines.proofs.store_word.Statement.{statement}
 use Rattle.lines.proofs.store_word.Tie as tie
@@ -21,7 +21,7 @@ same_length : tie.Need-same-length
 same_length c = search rules
 
 returns : tie.Need-returns
-returns c = sets-all word c.args.out.now c.requires
+returns c = sets_all word c.args.out.now c.requires
 
 pub store-word-spec : {M : Type 1} → statement M
 store-word-spec =

@@ -7,7 +7,7 @@ use lib.ListN.{length}
 use Rattle.device.specs.Machine.{machine}
 use Rattle.device.specs.Work.{unitwise}
 use Rattle.kept.proofs.Steps.{step_keeps}
-use Rattle.model.proofs.Loop.{Going, going_start, out-long, stands, going_on, going-off}
+use Rattle.model.proofs.Loop.{Going, going_start, out_long, stands, going_on, going_off}
 use Rattle.model.proofs.go.Statement.{statement}
 use Rattle.model.proofs.go.Tie as tie
 
@@ -43,19 +43,19 @@ so-far-requires : tie.Need-so-far-requires invariant-loop decreases-loop
 so-far-requires c κs = search rules
 
 same_length : tie.Need-same-length invariant-loop decreases-loop
-same_length c = c.before.before.before.before.before.before.before.before.before.before.before.cells.given ∙ c.before.before.before.before.before.before.before.before.before.before.before.before.before.before.before.before.before.loop.invariant.sound.fits.cells-long ∙ sym c.before.before.before.before.before.before.before.before.before.before.before.before.before.before.before.before.before.before.before.before.before.before.before.before.requires.1.fits.cells-long
+same_length c = c.before.before.before.before.before.before.before.before.before.before.before.cells.given ∙ c.before.before.before.before.before.before.before.before.before.before.before.before.before.before.before.before.before.loop.invariant.sound.fits.cells_long ∙ sym c.before.before.before.before.before.before.before.before.before.before.before.before.before.before.before.before.before.before.before.before.before.before.before.before.requires.1.fits.cells_long
 
 same-length-2 : tie.Need-same-length-2 invariant-loop decreases-loop
-same-length-2 c = c.before.before.before.before.before.before.before.before.before.cache.given ∙ c.before.before.before.before.before.before.before.before.before.before.before.before.before.before.before.before.before.loop.invariant.sound.fits.cache-long ∙ sym c.before.before.before.before.before.before.before.before.before.before.before.before.before.before.before.before.before.before.before.before.before.before.before.before.requires.1.fits.cache-long
+same-length-2 c = c.before.before.before.before.before.before.before.before.before.cache.given ∙ c.before.before.before.before.before.before.before.before.before.before.before.before.before.before.before.before.before.loop.invariant.sound.fits.cache_long ∙ sym c.before.before.before.before.before.before.before.before.before.before.before.before.before.before.before.before.before.before.before.before.before.before.before.before.requires.1.fits.cache_long
 
 same-length-3 : tie.Need-same-length-3 invariant-loop decreases-loop
-same-length-3 c = c.before.before.before.before.before.before.before.counts.given ∙ c.before.before.before.before.before.before.before.before.before.before.before.before.before.before.before.before.before.loop.invariant.sound.counts-long ∙ sym c.before.before.before.before.before.before.before.before.before.before.before.before.before.before.before.before.before.before.before.before.before.before.before.before.requires.1.counts-long
+same-length-3 c = c.before.before.before.before.before.before.before.counts.given ∙ c.before.before.before.before.before.before.before.before.before.before.before.before.before.before.before.before.before.loop.invariant.sound.counts_long ∙ sym c.before.before.before.before.before.before.before.before.before.before.before.before.before.before.before.before.before.before.before.before.before.before.before.before.requires.1.counts_long
 
 same-length-4 : tie.Need-same-length-4 invariant-loop decreases-loop
-same-length-4 c = c.before.before.before.before.before.out.given ∙ out-long _ _ _ _ _ _ _ _ c.before.before.before.before.before.before.before.before.before.before.before.before.before.before.before.before.before.loop.invariant
+same-length-4 c = c.before.before.before.before.before.out.given ∙ out_long _ _ _ _ _ _ _ _ c.before.before.before.before.before.before.before.before.before.before.before.before.before.before.before.before.before.loop.invariant
 
 returns : tie.Need-returns invariant-loop decreases-loop
-returns c = rw c.so_far.ensures (rw c.before.before.before.before.before.before.before.before.before.before.before.before.before.before.before.before.before.before.start.ensures at (going-off _ _ _ _ _ (step_keeps _ c.before.before.before.before.before.before.before.before.before.before.before.before.before.before.before.before.before.before.before.before.before.before.before.before.requires.0) (λ i. omega (arith, c.before.before.before.before.before.before.before.before.before.before.before.before.before.before.before.before.before.before.before.before.before.before.before.shared-slice-known.given i)) _ _ _ c.before.before.before.before.before.before.before.before.before.before.before.before.before.before.before.before.before.loop.invariant _ _ _ _ _ c.before.before.before.before.before.before.before.before.before.before.before.before.onward.ensures _ c.before.before.r.given.1))
+returns c = rw c.so_far.ensures (rw c.before.before.before.before.before.before.before.before.before.before.before.before.before.before.before.before.before.before.start.ensures at (going_off _ _ _ _ _ (step_keeps _ c.before.before.before.before.before.before.before.before.before.before.before.before.before.before.before.before.before.before.before.before.before.before.before.before.requires.0) (λ i. omega (arith, c.before.before.before.before.before.before.before.before.before.before.before.before.before.before.before.before.before.before.before.before.before.before.before.shared-slice-known.given i)) _ _ _ c.before.before.before.before.before.before.before.before.before.before.before.before.before.before.before.before.before.loop.invariant _ _ _ _ _ c.before.before.before.before.before.before.before.before.before.before.before.before.onward.ensures _ c.before.before.r.given.1))
 
 pub go-spec : {M : Type 1} → statement M
 go-spec =

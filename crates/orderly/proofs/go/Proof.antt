@@ -5,8 +5,8 @@ use native.Mathlib.Omega.{arith}
 use borrow.Author.Rules.{rules}
 use lib.ListN.{length}
 use Rattle.device.specs.Machine.{machine}
-use Rattle.model.proofs.Loop.{out-long, stands}
-use Rattle.orderly.proofs.Judging.{Judging, judging-start, judging-on, judging-off}
+use Rattle.model.proofs.Loop.{out_long, stands}
+use Rattle.orderly.proofs.Judging.{Judging, judging_start, judging_on, judging_off}
 use Rattle.orderly.proofs.go.Statement.{statement}
 use Rattle.orderly.proofs.go.Tie as tie
 
@@ -24,7 +24,7 @@ starts-requires : tie.Need-starts-requires invariant-loop decreases-loop
 starts-requires c κs = search rules
 
 loop-holds : tie.Need-loop-init invariant-loop decreases-loop
-loop-holds c = rw (c.starts.ensures, c.before.start.ensures) (judging-start _ _ _ _ c.before.before.before.before.before.before.before.requires.1)
+loop-holds c = rw (c.starts.ensures, c.before.start.ensures) (judging_start _ _ _ _ c.before.before.before.before.before.before.before.requires.1)
 
 next-at-requires : tie.Need-next-at-requires invariant-loop decreases-loop
 next-at-requires c κs = search rules
@@ -42,10 +42,10 @@ enum-known-next : tie.Need-enum-known-next invariant-loop decreases-loop
 enum-known-next c = search rules
 
 loop-less : tie.Need-loop-smaller invariant-loop decreases-loop
-loop-less c = let h = judging-on _ _ _ _ c.before.before.before.before.before.before.before.before.before.before.before.before.before.before.before.before.before.before.before.before.before.before.before.before.before.before.before.before.requires.0 (rw c.before.before.before.before.before.before.before.before.before.before.before.before.before.before.before.before.before.before.before.before.before.before.start.ensures c.before.before.before.before.before.before.before.before.before.before.before.before.before.before.before.before.before.before.before.before.before.before.before.before.before.before.before.before.requires.1) _ _ _ _ c.before.before.before.before.before.before.before.before.before.before.before.before.before.before.before.before.before.before.before.before.loop.invariant (λ i. omega (arith, c.before.before.before.before.before.before.before.before.before.before.before.before.before.before.before.before.before.before.before.before.before.before.before.before.before.before.before.shared-slice-known.given i)) _ _ _ _ _ c.before.before.before.before.before.before.before.before.before.before.before.onward.ensures _ c.before.next.given.1 in omega (arith, h.0, h.1.going.inside)
+loop-less c = let h = judging_on _ _ _ _ c.before.before.before.before.before.before.before.before.before.before.before.before.before.before.before.before.before.before.before.before.before.before.before.before.before.before.before.before.requires.0 (rw c.before.before.before.before.before.before.before.before.before.before.before.before.before.before.before.before.before.before.before.before.before.before.start.ensures c.before.before.before.before.before.before.before.before.before.before.before.before.before.before.before.before.before.before.before.before.before.before.before.before.before.before.before.before.requires.1) _ _ _ _ c.before.before.before.before.before.before.before.before.before.before.before.before.before.before.before.before.before.before.before.before.loop.invariant (λ i. omega (arith, c.before.before.before.before.before.before.before.before.before.before.before.before.before.before.before.before.before.before.before.before.before.before.before.before.before.before.before.shared-slice-known.given i)) _ _ _ _ _ c.before.before.before.before.before.before.before.before.before.before.before.onward.ensures _ c.before.next.given.1 in omega (arith, h.0, h.1.going.inside)
 
 loop-again : tie.Need-loop-preserved invariant-loop decreases-loop
-loop-again c = rw (c.before.before.before.before.before.before.before.before.before.before.before.before.before.before.before.before.both.ensures, c.before.before.before.before.before.before.before.before.before.before.before.before.before.before.before.before.before.welcome.ensures, c.before.before.before.before.before.before.before.before.before.before.before.before.before.before.before.before.before.before.next-at.ensures) (judging-on _ _ _ _ c.before.before.before.before.before.before.before.before.before.before.before.before.before.before.before.before.before.before.before.before.before.before.before.before.before.before.before.before.requires.0 (rw c.before.before.before.before.before.before.before.before.before.before.before.before.before.before.before.before.before.before.before.before.before.before.start.ensures c.before.before.before.before.before.before.before.before.before.before.before.before.before.before.before.before.before.before.before.before.before.before.before.before.before.before.before.before.requires.1) _ _ _ _ c.before.before.before.before.before.before.before.before.before.before.before.before.before.before.before.before.before.before.before.before.loop.invariant (λ i. omega (arith, c.before.before.before.before.before.before.before.before.before.before.before.before.before.before.before.before.before.before.before.before.before.before.before.before.before.before.before.shared-slice-known.given i)) _ _ _ _ _ c.before.before.before.before.before.before.before.before.before.before.before.onward.ensures _ c.before.next.given.1).1
+loop-again c = rw (c.before.before.before.before.before.before.before.before.before.before.before.before.before.before.before.before.both.ensures, c.before.before.before.before.before.before.before.before.before.before.before.before.before.before.before.before.before.welcome.ensures, c.before.before.before.before.before.before.before.before.before.before.before.before.before.before.before.before.before.before.next-at.ensures) (judging_on _ _ _ _ c.before.before.before.before.before.before.before.before.before.before.before.before.before.before.before.before.before.before.before.before.before.before.before.before.before.before.before.before.requires.0 (rw c.before.before.before.before.before.before.before.before.before.before.before.before.before.before.before.before.before.before.before.before.before.before.start.ensures c.before.before.before.before.before.before.before.before.before.before.before.before.before.before.before.before.before.before.before.before.before.before.before.before.before.before.before.before.requires.1) _ _ _ _ c.before.before.before.before.before.before.before.before.before.before.before.before.before.before.before.before.before.before.before.before.loop.invariant (λ i. omega (arith, c.before.before.before.before.before.before.before.before.before.before.before.before.before.before.before.before.before.before.before.before.before.before.before.before.before.before.before.shared-slice-known.given i)) _ _ _ _ _ c.before.before.before.before.before.before.before.before.before.before.before.onward.ensures _ c.before.next.given.1).1
 
 enum-known-r : tie.Need-enum-known-r invariant-loop decreases-loop
 enum-known-r c = search rules
@@ -57,19 +57,19 @@ closed-requires : tie.Need-closed-requires invariant-loop decreases-loop
 closed-requires c κs = search rules
 
 same_length : tie.Need-same-length invariant-loop decreases-loop
-same_length c = c.before.before.before.before.before.before.before.before.before.before.before.before.cells.given ∙ c.before.before.before.before.before.before.before.before.before.before.before.before.before.before.before.before.before.before.before.before.before.before.loop.invariant.going.sound.fits.cells-long ∙ sym c.before.before.before.before.before.before.before.before.before.before.before.before.before.before.before.before.before.before.before.before.before.before.before.before.before.before.before.before.before.before.requires.1.fits.cells-long
+same_length c = c.before.before.before.before.before.before.before.before.before.before.before.before.cells.given ∙ c.before.before.before.before.before.before.before.before.before.before.before.before.before.before.before.before.before.before.before.before.before.before.loop.invariant.going.sound.fits.cells_long ∙ sym c.before.before.before.before.before.before.before.before.before.before.before.before.before.before.before.before.before.before.before.before.before.before.before.before.before.before.before.before.before.before.requires.1.fits.cells_long
 
 same-length-2 : tie.Need-same-length-2 invariant-loop decreases-loop
-same-length-2 c = c.before.before.before.before.before.before.before.before.before.before.cache.given ∙ c.before.before.before.before.before.before.before.before.before.before.before.before.before.before.before.before.before.before.before.before.before.before.loop.invariant.going.sound.fits.cache-long ∙ sym c.before.before.before.before.before.before.before.before.before.before.before.before.before.before.before.before.before.before.before.before.before.before.before.before.before.before.before.before.before.before.requires.1.fits.cache-long
+same-length-2 c = c.before.before.before.before.before.before.before.before.before.before.cache.given ∙ c.before.before.before.before.before.before.before.before.before.before.before.before.before.before.before.before.before.before.before.before.before.before.loop.invariant.going.sound.fits.cache_long ∙ sym c.before.before.before.before.before.before.before.before.before.before.before.before.before.before.before.before.before.before.before.before.before.before.before.before.before.before.before.before.before.before.requires.1.fits.cache_long
 
 same-length-3 : tie.Need-same-length-3 invariant-loop decreases-loop
-same-length-3 c = c.before.before.before.before.before.before.before.before.counts.given ∙ c.before.before.before.before.before.before.before.before.before.before.before.before.before.before.before.before.before.before.before.before.before.before.loop.invariant.going.sound.counts-long ∙ sym c.before.before.before.before.before.before.before.before.before.before.before.before.before.before.before.before.before.before.before.before.before.before.before.before.before.before.before.before.before.before.requires.1.counts-long
+same-length-3 c = c.before.before.before.before.before.before.before.before.counts.given ∙ c.before.before.before.before.before.before.before.before.before.before.before.before.before.before.before.before.before.before.before.before.before.before.loop.invariant.going.sound.counts_long ∙ sym c.before.before.before.before.before.before.before.before.before.before.before.before.before.before.before.before.before.before.before.before.before.before.before.before.before.before.before.before.before.before.requires.1.counts_long
 
 same-length-4 : tie.Need-same-length-4 invariant-loop decreases-loop
-same-length-4 c = c.before.before.before.before.before.before.out.given ∙ out-long _ _ _ _ _ _ _ _ c.before.before.before.before.before.before.before.before.before.before.before.before.before.before.before.before.before.before.before.before.before.before.loop.invariant.going
+same-length-4 c = c.before.before.before.before.before.before.out.given ∙ out_long _ _ _ _ _ _ _ _ c.before.before.before.before.before.before.before.before.before.before.before.before.before.before.before.before.before.before.before.before.before.before.loop.invariant.going
 
 returns : tie.Need-returns invariant-loop decreases-loop
-returns c = rw (c.closed.ensures, c.before.so_far.ensures) (rw c.before.before.before.before.before.before.before.before.before.before.before.before.before.before.before.before.before.before.before.before.before.before.before.before.start.ensures at (judging-off _ _ _ _ c.before.before.before.before.before.before.before.before.before.before.before.before.before.before.before.before.before.before.before.before.before.before.before.before.before.before.before.before.before.before.requires.0 (rw c.before.before.before.before.before.before.before.before.before.before.before.before.before.before.before.before.before.before.before.before.before.before.before.before.start.ensures c.before.before.before.before.before.before.before.before.before.before.before.before.before.before.before.before.before.before.before.before.before.before.before.before.before.before.before.before.before.before.requires.1) _ _ _ _ c.before.before.before.before.before.before.before.before.before.before.before.before.before.before.before.before.before.before.before.before.before.before.loop.invariant (λ i. omega (arith, c.before.before.before.before.before.before.before.before.before.before.before.before.before.before.before.before.before.before.before.before.before.before.before.before.before.before.before.before.before.shared-slice-known.given i)) _ _ _ _ _ c.before.before.before.before.before.before.before.before.before.before.before.before.before.onward.ensures _ c.before.before.before.r.given.1))
+returns c = rw (c.closed.ensures, c.before.so_far.ensures) (rw c.before.before.before.before.before.before.before.before.before.before.before.before.before.before.before.before.before.before.before.before.before.before.before.before.start.ensures at (judging_off _ _ _ _ c.before.before.before.before.before.before.before.before.before.before.before.before.before.before.before.before.before.before.before.before.before.before.before.before.before.before.before.before.before.before.requires.0 (rw c.before.before.before.before.before.before.before.before.before.before.before.before.before.before.before.before.before.before.before.before.before.before.before.before.start.ensures c.before.before.before.before.before.before.before.before.before.before.before.before.before.before.before.before.before.before.before.before.before.before.before.before.before.before.before.before.before.before.requires.1) _ _ _ _ c.before.before.before.before.before.before.before.before.before.before.before.before.before.before.before.before.before.before.before.before.before.before.loop.invariant (λ i. omega (arith, c.before.before.before.before.before.before.before.before.before.before.before.before.before.before.before.before.before.before.before.before.before.before.before.before.before.before.before.before.before.shared-slice-known.given i)) _ _ _ _ _ c.before.before.before.before.before.before.before.before.before.before.before.before.before.onward.ensures _ c.before.before.before.r.given.1))
 
 pub go-spec : {M : Type 1} → statement M
 go-spec =

@@ -1,6 +1,6 @@
 -- The checks, and then the loop.
-use Rattle.refusals.proofs.Checked.{sound-as, passed-no, passed-yes}
-use Rattle.orderly.proofs.Judging.{judged-none}
+use Rattle.refusals.proofs.Checked.{sound_as, passed_no, passed_yes}
+use Rattle.orderly.proofs.Judging.{judged_none}
 use borrow.Author.Rules.{rules}
 use Rattle.orderly.proofs.judge.Statement.{statement}
 use Rattle.orderly.proofs.judge.Tie as tie
@@ -24,10 +24,10 @@ closed-requires : tie.Need-closed-requires
 closed-requires c κs = search rules
 
 returns : tie.Need-returns
-returns c = rw (c.closed.ensures, c.before.starts.ensures, c.before.before.so_far.ensures, c.before.before.before.start.ensures) (judged-none _ _ _ _ _ c.before.before.before.before.before.before.check.ensures (passed-no c.before.before.before.before.before.before.check.result _ c.before.before.before.before.before.passes.ensures c.before.before.before.before.if1.true))
+returns c = rw (c.closed.ensures, c.before.starts.ensures, c.before.before.so_far.ensures, c.before.before.before.start.ensures) (judged_none _ _ _ _ _ c.before.before.before.before.before.before.check.ensures (passed_no c.before.before.before.before.before.before.check.result _ c.before.before.before.before.before.passes.ensures c.before.before.before.before.if1.true))
 
 go-requires : tie.Need-go-requires
-go-requires c κs = sound-as _ _ _ c.before.before.before.before.before.before.check.ensures (passed-yes c.before.before.before.before.before.before.check.result _ c.before.before.before.before.before.passes.ensures c.before.before.before.before.if1.false)
+go-requires c κs = sound_as _ _ _ c.before.before.before.before.before.before.check.ensures (passed_yes c.before.before.before.before.before.before.check.result _ c.before.before.before.before.before.passes.ensures c.before.before.before.before.if1.false)
 
 same_length : tie.Need-same-length
 same_length c = search rules

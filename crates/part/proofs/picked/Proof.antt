@@ -1,7 +1,7 @@
 use borrow.Author.Rules.{rules}
 use borrow.Author.Tests.{ne_eqb}
 use Rattle.part.specs.Protection.{bp}
-use Rattle.part.proofs.Laws.{guarded-few}
+use Rattle.part.proofs.Laws.{guarded_few}
 use Rattle.part.proofs.picked.Statement.{statement}
 use Rattle.part.proofs.picked.Tie as tie
 
@@ -15,7 +15,7 @@ wide-requires : tie.Need-wide-requires
 wide-requires c κs = search rules
 
 sub-result : tie.Need-overflow-sub-result
-sub-result c = rw (c.before.before.guarded.ensures, c.wide.ensures) (guarded-few c.before.before.before.args.g (bp c.before.before.before.args.a0))
+sub-result c = rw (c.before.before.guarded.ensures, c.wide.ensures) (guarded_few c.before.before.before.args.g (bp c.before.before.before.args.a0))
 
 returns-2 : tie.Need-returns-2
 returns-2 c = rw (c.wide.ensures, c.before.before.guarded.ensures, ne_eqb _ _ c.before.if1.false)

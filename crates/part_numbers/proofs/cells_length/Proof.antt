@@ -5,8 +5,8 @@ use native.Mathlib.Nat.{mul-le-mul}
 use borrow.Author.Rules.{rules}
 use borrow.Author.Tests.{not-true, not-false}
 use Rattle.part.specs.Part.{Sound}
-use Rattle.part.proofs.Choice.{true-T}
-use Rattle.part.proofs.Laws.{sound-exactly}
+use Rattle.part.proofs.Choice.{true_T}
+use Rattle.part.proofs.Laws.{sound_exactly}
 use Rattle.part_numbers.proofs.cells_length.Statement.{statement}
 use Rattle.part_numbers.proofs.cells_length.Tie as tie
 
@@ -27,7 +27,7 @@ page-requires c κs = search rules
 
 mul-result : tie.Need-overflow-mul-result
 mul-result c =
-    let s : Sound c.before.before.before.before.part_of.result = (sound-exactly c.before.before.before.before.part_of.result).0 (true-T _ (sym c.before.before.before.sound.ensures ∙ not-false c.before.before.before.sound.result c.before.before.if1.false)) in
+    let s : Sound c.before.before.before.before.part_of.result = (sound_exactly c.before.before.before.before.part_of.result).0 (true_T _ (sym c.before.before.before.sound.ensures ∙ not-false c.before.before.before.sound.result c.before.before.if1.false)) in
     rw (c.before.rows.ensures, c.page.ensures) (omega (arith, mul-le-mul s.few-rows s.small-page))
 
 returns-2 : tie.Need-returns-2

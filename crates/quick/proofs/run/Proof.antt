@@ -1,7 +1,7 @@
 -- The checks, and then the loop.
 use borrow.Author.Rules.{rules}
-use Rattle.refusals.proofs.Checked.{sound-as, passed-no, passed-yes}
-use Rattle.model.proofs.Single.{run-refused, run_ran}
+use Rattle.refusals.proofs.Checked.{sound_as, passed_no, passed_yes}
+use Rattle.model.proofs.Single.{run_refused, run_ran}
 use borrow.Author.Rules.{rules}
 use Rattle.quick.proofs.run.Statement.{statement}
 use Rattle.quick.proofs.run.Tie as tie
@@ -19,10 +19,10 @@ so-far-requires : tie.Need-so-far-requires
 so-far-requires c κs = search rules
 
 returns : tie.Need-returns
-returns c = rw (c.so_far.ensures, c.before.start.ensures) (run-refused _ _ _ _ _ _ _ c.before.before.before.before.check.ensures (passed-no c.before.before.before.before.check.result _ c.before.before.before.passes.ensures c.before.before.if1.true))
+returns c = rw (c.so_far.ensures, c.before.start.ensures) (run_refused _ _ _ _ _ _ _ c.before.before.before.before.check.ensures (passed_no c.before.before.before.before.check.result _ c.before.before.before.passes.ensures c.before.before.if1.true))
 
 go-requires : tie.Need-go-requires
-go-requires c κs = sound-as _ _ _ c.before.before.before.before.before.before.check.ensures (passed-yes c.before.before.before.before.before.before.check.result _ c.before.before.before.before.before.passes.ensures c.before.before.before.before.if1.false)
+go-requires c κs = sound_as _ _ _ c.before.before.before.before.before.before.check.ensures (passed_yes c.before.before.before.before.before.before.check.result _ c.before.before.before.before.before.passes.ensures c.before.before.before.before.if1.false)
 
 same_length : tie.Need-same-length
 same_length c = search rules
@@ -37,7 +37,7 @@ same-length-4 : tie.Need-same-length-4
 same-length-4 c = search rules
 
 returns-2 : tie.Need-returns-2
-returns-2 c = run_ran _ _ _ _ _ _ _ c.before.before.before.before.before.before.before.before.before.before.before.before.before.before.before.check.ensures (passed-yes c.before.before.before.before.before.before.before.before.before.before.before.before.before.before.before.check.result _ c.before.before.before.before.before.before.before.before.before.before.before.before.before.before.passes.ensures c.before.before.before.before.before.before.before.before.before.before.before.before.before.if1.false) _ c.before.before.before.before.before.before.before.before.go.ensures
+returns-2 c = run_ran _ _ _ _ _ _ _ c.before.before.before.before.before.before.before.before.before.before.before.before.before.before.before.check.ensures (passed_yes c.before.before.before.before.before.before.before.before.before.before.before.before.before.before.before.check.result _ c.before.before.before.before.before.before.before.before.before.before.before.before.before.before.passes.ensures c.before.before.before.before.before.before.before.before.before.before.before.before.before.if1.false) _ c.before.before.before.before.before.before.before.before.go.ensures
 
 pub run_spec : {M : Type 1} → statement M
 run_spec =

@@ -2,7 +2,7 @@
 use mathlib.Core.Path.{sym}
 use native.Mathlib.Omega.{arith}
 use lib.Seq.{length-take-le}
-use Rattle.lines.proofs.Laid.{laid-within}
+use Rattle.lines.proofs.Laid.{laid_within}
 use borrow.Author.Rules.{rules}
 use Rattle.replay.proofs.print_end.Statement.{statement}
 use Rattle.replay.proofs.print_end.Tie as tie
@@ -14,10 +14,10 @@ end-line-requires : tie.Need-end-line-requires
 end-line-requires c κs = search rules
 
 array-share-prefix-text : tie.Need-array-share-prefix-text
-array-share-prefix-text c = omega (arith, laid-within _ _ _ _ c.before.end_line.ensures, c.before.end_line.auto.1.1.0)
+array-share-prefix-text c = omega (arith, laid_within _ _ _ _ c.before.end_line.ensures, c.before.end_line.auto.1.1.0)
 
 slice-aggregate-write-all : tie.Need-slice-aggregate-write-all
-slice-aggregate-write-all c = sym (length-take-le _ _ (omega (arith, laid-within _ _ _ _ c.before.before.end_line.ensures, c.before.before.end_line.auto.1.1.0)))
+slice-aggregate-write-all c = sym (length-take-le _ _ (omega (arith, laid_within _ _ _ _ c.before.before.end_line.ensures, c.before.before.end_line.auto.1.1.0)))
 
 write-all-requires : tie.Need-write-all-requires
 write-all-requires c κs = search rules

@@ -2,7 +2,7 @@
 use mathlib.Core.Path.{sym}
 use native.Mathlib.Omega.{arith}
 use lib.Seq.{length-take-le}
-use Rattle.lines.proofs.Laid.{laid-within}
+use Rattle.lines.proofs.Laid.{laid_within}
 use borrow.Author.Rules.{rules}
 use Rattle.replay.proofs.print_record.Statement.{statement}
 use Rattle.replay.proofs.print_record.Tie as tie
@@ -14,10 +14,10 @@ record-line-requires : tie.Need-record-line-requires
 record-line-requires c κs = search rules
 
 array-share-prefix-text : tie.Need-array-share-prefix-text
-array-share-prefix-text c = omega (arith, laid-within _ _ _ _ c.before.record-line.ensures, c.before.record-line.auto.1.1.1.1.0)
+array-share-prefix-text c = omega (arith, laid_within _ _ _ _ c.before.record-line.ensures, c.before.record-line.auto.1.1.1.1.0)
 
 slice-aggregate-write-all : tie.Need-slice-aggregate-write-all
-slice-aggregate-write-all c = sym (length-take-le _ _ (omega (arith, laid-within _ _ _ _ c.before.before.record-line.ensures, c.before.before.record-line.auto.1.1.1.1.0)))
+slice-aggregate-write-all c = sym (length-take-le _ _ (omega (arith, laid_within _ _ _ _ c.before.before.record-line.ensures, c.before.before.record-line.auto.1.1.1.1.0)))
 
 write-all-requires : tie.Need-write-all-requires
 write-all-requires c κs = search rules

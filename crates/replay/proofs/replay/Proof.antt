@@ -4,7 +4,7 @@ use Prim.Native.Nat.{◌-◌, ◌≤◌}
 use native.Mathlib.Omega.{arith}
 use borrow.Author.Rules.{rules}
 use lib.ListN.{length}
-use Rattle.replay.proofs.Places.{met-further}
+use Rattle.replay.proofs.Places.{met_further}
 use Rattle.replay.proofs.replay.Statement.{statement}
 use Rattle.replay.proofs.replay.Tie as tie
 
@@ -54,13 +54,13 @@ enum-known-next : tie.Need-enum-known-next invariant-loop decreases-loop
 enum-known-next c = search rules
 
 sub-turn : tie.Need-overflow-sub-turn invariant-loop decreases-loop
-sub-turn c = omega (arith, met-further _ _ c.before.before.before.before.loop.invariant.0 c.before.before.before.meet.ensures c.before.next.given.1)
+sub-turn c = omega (arith, met_further _ _ c.before.before.before.before.loop.invariant.0 c.before.before.before.meet.ensures c.before.next.given.1)
 
 part-turn-start : tie.Need-slice-bounds-turn-start invariant-loop decreases-loop
-part-turn-start c = omega (arith, met-further _ _ c.before.before.before.before.loop.invariant.0 c.before.before.before.meet.ensures c.before.next.given.1)
+part-turn-start c = omega (arith, met_further _ _ c.before.before.before.before.loop.invariant.0 c.before.before.before.meet.ensures c.before.next.given.1)
 
 part-turn-end : tie.Need-slice-bounds-turn-end invariant-loop decreases-loop
-part-turn-end c = omega (arith, met-further _ _ c.before.before.before.before.loop.invariant.0 c.before.before.before.meet.ensures c.before.next.given.1)
+part-turn-end c = omega (arith, met_further _ _ c.before.before.before.before.loop.invariant.0 c.before.before.before.meet.ensures c.before.next.given.1)
 
 turn-requires : tie.Need-turn-requires invariant-loop decreases-loop
 turn-requires c κs = search rules
@@ -69,11 +69,11 @@ add-records : tie.Need-overflow-add-records invariant-loop decreases-loop
 add-records c = omega (arith, c.before.before.before.before.before.before.before.before.before.before.before.before.before.before.before.before.before.before.before.before.before.requires, c.before.before.before.before.before.before.before.before.before.before.before.before.before.before.before.loop.invariant)
 
 loop-less : tie.Need-loop-smaller invariant-loop decreases-loop
-loop-less c = omega (arith, met-further _ _ c.before.before.before.before.before.before.before.before.before.before.before.before.before.before.before.loop.invariant.0 c.before.before.before.before.before.before.before.before.before.before.before.before.before.before.meet.ensures c.before.before.before.before.before.before.before.before.before.before.before.before.next.given.1)
+loop-less c = omega (arith, met_further _ _ c.before.before.before.before.before.before.before.before.before.before.before.before.before.before.before.loop.invariant.0 c.before.before.before.before.before.before.before.before.before.before.before.before.before.before.meet.ensures c.before.before.before.before.before.before.before.before.before.before.before.before.next.given.1)
 
 loop-again : tie.Need-loop-preserved invariant-loop decreases-loop
 loop-again c =
-    let f = met-further _ _ c.before.before.before.before.before.before.before.before.before.before.before.before.before.before.before.loop.invariant.0 c.before.before.before.before.before.before.before.before.before.before.before.before.before.before.meet.ensures c.before.before.before.before.before.before.before.before.before.before.before.before.next.given.1 in
+    let f = met_further _ _ c.before.before.before.before.before.before.before.before.before.before.before.before.before.before.before.loop.invariant.0 c.before.before.before.before.before.before.before.before.before.before.before.before.before.before.meet.ensures c.before.before.before.before.before.before.before.before.before.before.before.before.next.given.1 in
     (f.1, omega (arith, f.0, c.before.before.before.before.before.before.before.before.before.before.before.before.before.before.before.loop.invariant.1), c.before.before.before.before.before.before.turn.auto.1.1.1.1.0 ∙ c.before.before.before.before.before.before.before.before.before.before.before.before.before.before.before.loop.invariant.2, c.before.before.before.before.before.before.turn.auto.1.1.1.1.1.0 ∙ c.before.before.before.before.before.before.before.before.before.before.before.before.before.before.before.loop.invariant.3, c.before.before.before.before.before.before.turn.auto.1.1.1.1.1.1.0 ∙ c.before.before.before.before.before.before.before.before.before.before.before.before.before.before.before.loop.invariant.4)
 
 pub replay-spec : {M : Type 1} → statement M

@@ -2,8 +2,8 @@
 use mathlib.Core.Bool.{true}
 use mathlib.Core.Path.{◌≡◌, sym, ap, ◌∙◌}
 use borrow.Author.Tests.{not-true, not-false}
-use Rattle.requests.specs.Requests.{begins?, programFate}
-use Rattle.requests.proofs.Fates.{program-begins}
+use Rattle.requests.specs.Requests.{begins?, program_fate}
+use Rattle.requests.proofs.Fates.{program_begins}
 use borrow.Author.Rules.{rules}
 use Rattle.requests.proofs.ask_program.Statement.{statement}
 use Rattle.requests.proofs.ask_program.Tie as tie
@@ -23,9 +23,9 @@ returns c = (c.before.before.program-fate.ensures, rw (← c.before.begins.ensur
 count-up-requires : tie.Need-count-up-requires
 count-up-requires c κs =
     let a = c.before.before.before.before.before.before.args in
-    let b : begins? (programFate c.before.before.before.before.before.before.args.g c.before.before.before.before.before.before.args.a0 c.before.before.before.before.before.before.args.row c.before.before.before.before.before.before.args.counts.now) ≡ true =
+    let b : begins? (program_fate c.before.before.before.before.before.before.args.g c.before.before.before.before.before.before.args.a0 c.before.before.before.before.before.before.args.row c.before.before.before.before.before.before.args.counts.now) ≡ true =
     ap begins? (sym c.before.before.before.program-fate.ensures) ∙ sym c.before.before.begins.ensures ∙ not-false c.before.before.begins.result c.before.if1.false in
-    (program-begins a.g a.a0 a.row a.counts.now b).1
+    (program_begins a.g a.a0 a.row a.counts.now b).1
 
 same-length-2 : tie.Need-same-length-2
 same-length-2 c = search rules

@@ -3,7 +3,7 @@ use native.Mathlib.Omega.{arith}
 use lib.ListN.{length}
 use lib.Seq.{set_out}
 use Prim.Native.Nat.{◌+◌, ◌≤◌}
-use Rattle.requests.specs.Requests.{usedOf}
+use Rattle.requests.specs.Requests.{used_of}
 use borrow.Author.Rules.{rules}
 use Rattle.requests.proofs.count_up.Statement.{statement}
 use Rattle.requests.proofs.count_up.Tie as tie
@@ -15,7 +15,7 @@ returns : tie.Need-returns
 returns c =
     let a = c.before.before.before.args in
     let h : length c.before.before.before.args.counts.now ≤ c.before.before.before.args.row.0 = rw c.before.wide_short.ensures at c.if1.true in
-    rw (set_out a.counts.now a.row.0 (usedOf a.row a.counts.now + 1) h)
+    rw (set_out a.counts.now a.row.0 (used_of a.row a.counts.now + 1) h)
 
 slice-read-counts : tie.Need-slice-read-counts
 slice-read-counts c = search rules

@@ -3,7 +3,7 @@ use native.Mathlib.Omega.{arith}
 use native.Mathlib.Nat.{div-mul-le_self}
 use Prim.Native.Nat.{◌*◌, ◌<◌, ◌≤◌}
 use Rattle.part.specs.Part.{block}
-use Rattle.requests.proofs.Stretch.{stretch-filled}
+use Rattle.requests.proofs.Stretch.{stretch_filled}
 use borrow.Author.Rules.{rules}
 use Rattle.requests.proofs.uncount.Statement.{statement}
 use Rattle.requests.proofs.uncount.Tie as tie
@@ -46,7 +46,7 @@ returns : tie.Need-returns
 returns c =
     let a = c.before.before.before.before.before.before.before.before.before.args in
     rw (c.before.before.fill.ensures, c.before.before.before.before.least2.ensures, c.before.before.before.before.before.least.ensures, c.before.before.before.before.before.before.block.ensures, c.before.before.before.before.before.before.before.wide.ensures)
-    (stretch-filled (block a.g a.row * a.g.pages) a.g.pages 0 a.counts.now)
+    (stretch_filled (block a.g a.row * a.g.pages) a.g.pages 0 a.counts.now)
 
 pub uncount-spec : {M : Type 1} → statement M
 uncount-spec =

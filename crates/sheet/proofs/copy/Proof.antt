@@ -3,7 +3,7 @@ use Prim.Native.Nat.{◌-◌}
 use mathlib.Core.Path.{refl}
 use native.Mathlib.Omega.{arith}
 use lib.ListN.{length}
-use Rattle.sheet.proofs.Writing.{Written, none_written, one_written, all-written}
+use Rattle.sheet.proofs.Writing.{Written, none_written, one_written, all_written}
 use Rattle.sheet.proofs.copy.Statement.{statement}
 use Rattle.sheet.proofs.copy.Tie as tie
 
@@ -35,7 +35,7 @@ same_length : tie.Need-same-length invariant-loop decreases-loop
 same_length c = c.before.loop.invariant.long
 
 returns : tie.Need-returns invariant-loop decreases-loop
-returns c = all-written c.before.loop.invariant (omega arith)
+returns c = all_written c.before.loop.invariant (omega arith)
 
 pub copy_spec : {M : Type 1} → statement M
 copy_spec =

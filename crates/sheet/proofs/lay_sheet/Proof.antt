@@ -1,7 +1,7 @@
 -- The part's four numbers stand in the places that the table has for them.
 use Rattle.texts.specs.Text.{bytes as characters}
 use Rattle.sheet.specs.Numbers.{low_first}
-use Rattle.sheet.specs.Sheet.{bytesIn, sheet, laid, unnumbered}
+use Rattle.sheet.specs.Sheet.{bytes_in, sheet, laid, unnumbered}
 use borrow.Author.Rules.{rules}
 use Rattle.sheet.proofs.lay_sheet.Statement.{statement}
 use Rattle.sheet.proofs.lay_sheet.Tie as tie
@@ -61,7 +61,7 @@ same_length : tie.Need-same-length
 same_length c = search rules
 
 returns : tie.Need-returns
-unfolding unnumbered laid sheet bytesIn low_first characters
+unfolding unnumbered laid sheet bytes_in low_first characters
 returns c = rw (c.before.before.put4.ensures, c.before.before.before.before.before.before.put3.ensures, c.before.before.before.before.before.before.before.before.before.before.put2.ensures, c.before.before.before.before.before.before.before.before.before.before.before.before.before.before.put.ensures, c.before.before.before.before.before.before.before.before.before.before.before.before.before.before.before.before.before.before.lay-table.ensures)
 
 pub lay-sheet-spec : {M : Type 1} → statement M

@@ -1,7 +1,7 @@
 -- The bytes of the code are those of the table: one test, computed.
 use Rattle.texts.specs.Text.{bytes as characters}
 use Rattle.sheet.specs.Numbers.{low_first}
-use Rattle.sheet.specs.Sheet.{bytesIn, sheet, laid, unnumbered}
+use Rattle.sheet.specs.Sheet.{bytes_in, sheet, laid, unnumbered}
 use borrow.Author.Rules.{rules}
 use Rattle.sheet.proofs.lay_table.Statement.{statement}
 use Rattle.sheet.proofs.lay_table.Tie as tie
@@ -16,7 +16,7 @@ same_length : tie.Need-same-length
 same_length c = search rules
 
 returns : tie.Need-returns
-unfolding unnumbered laid sheet bytesIn low_first characters
+unfolding unnumbered laid sheet bytes_in low_first characters
 returns c = c.before.before.copy.ensures
 
 pub lay-table-spec : {M : Type 1} → statement M

@@ -1,6 +1,6 @@
 -- A run judged: the judgement of the model's run, put right.
 use borrow.Author.Rules.{rules}
-use Rattle.sleetanvil.proofs.Refused.{as-judged}
+use Rattle.sleetanvil.proofs.Refused.{as_judged}
 use Rattle.sleetanvil.proofs.sleet_judge.Statement.{statement}
 use Rattle.sleetanvil.proofs.sleet_judge.Tie as tie
 
@@ -34,7 +34,7 @@ same-length-4 c = search rules
 returns : tie.Need-returns
 returns c =
     rw (c.judged-of.ensures.0, c.judged-of.ensures.1)
-    (as-judged _ _ _ _ _ _ _ c.before.before.before.before.before.before.before.before.before.before.before.before.before.before.before.before.state-of.ensures c.before.before.before.before.before.before.before.before.before.before.before.before.before.before.before.part_of.ensures c.before.before.before.before.before.before.before.before.before.before.before.before.before.before.stand-in.ensures c.before.before.before.before.before.before.before.before.before.judge.ensures)
+    (as_judged _ _ _ _ _ _ _ c.before.before.before.before.before.before.before.before.before.before.before.before.before.before.before.before.state-of.ensures c.before.before.before.before.before.before.before.before.before.before.before.before.before.before.before.part_of.ensures c.before.before.before.before.before.before.before.before.before.before.before.before.before.before.stand-in.ensures c.before.before.before.before.before.before.before.before.before.judge.ensures)
 
 pub sleet-judge-spec : {M : Type 1} → statement M
 sleet-judge-spec =

@@ -1,6 +1,6 @@
 -- A run: the run of the model, put right.
 use borrow.Author.Rules.{rules}
-use Rattle.sleetanvil.proofs.Refused.{as-ran}
+use Rattle.sleetanvil.proofs.Refused.{as_ran}
 use Rattle.sleetanvil.proofs.sleet_run.Statement.{statement}
 use Rattle.sleetanvil.proofs.sleet_run.Tie as tie
 
@@ -34,7 +34,7 @@ same-length-4 c = search rules
 returns : tie.Need-returns
 returns c =
     rw c.answer-of.ensures
-    (as-ran _ _ _ _ _ _ _ c.before.before.before.before.before.before.before.before.before.before.before.before.before.before.before.before.state-of.ensures c.before.before.before.before.before.before.before.before.before.before.before.before.before.before.before.part_of.ensures c.before.before.before.before.before.before.before.before.before.before.before.before.before.before.stand-in.ensures c.before.before.before.before.before.before.before.before.before.run.ensures)
+    (as_ran _ _ _ _ _ _ _ c.before.before.before.before.before.before.before.before.before.before.before.before.before.before.before.before.state-of.ensures c.before.before.before.before.before.before.before.before.before.before.before.before.before.before.before.part_of.ensures c.before.before.before.before.before.before.before.before.before.before.before.before.before.before.stand-in.ensures c.before.before.before.before.before.before.before.before.before.run.ensures)
 
 pub sleet-run-spec : {M : Type 1} → statement M
 sleet-run-spec =

@@ -1,5 +1,5 @@
 -- A piece of a transfer, put right.
-use Rattle.sleetanvil.proofs.Refused.{as-exchanged}
+use Rattle.sleetanvil.proofs.Refused.{as_exchanged}
 use borrow.Author.Rules.{rules}
 use Rattle.sleetanvil.proofs.sleet_shifts.Statement.{statement}
 use Rattle.sleetanvil.proofs.sleet_shifts.Tie as tie
@@ -32,7 +32,7 @@ same-length-4 : tie.Need-same-length-4
 same-length-4 c = search rules
 
 returns : tie.Need-returns
-returns c = rw c.answer-of.ensures (as-exchanged _ _ _ _ _ _ _ c.before.before.before.before.before.before.before.before.before.before.before.before.before.before.before.before.state-of.ensures c.before.before.before.before.before.before.before.before.before.before.before.before.before.before.before.part_of.ensures c.before.before.before.before.before.before.before.before.before.before.before.before.before.before.stand-in.ensures c.before.before.before.before.before.before.before.before.before.shifts.ensures)
+returns c = rw c.answer-of.ensures (as_exchanged _ _ _ _ _ _ _ c.before.before.before.before.before.before.before.before.before.before.before.before.before.before.before.before.state-of.ensures c.before.before.before.before.before.before.before.before.before.before.before.before.before.before.before.part_of.ensures c.before.before.before.before.before.before.before.before.before.before.before.before.before.before.stand-in.ensures c.before.before.before.before.before.before.before.before.before.shifts.ensures)
 
 pub sleet-shifts-spec : {M : Type 1} → statement M
 sleet-shifts-spec =

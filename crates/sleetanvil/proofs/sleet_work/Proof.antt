@@ -1,5 +1,5 @@
 -- Work of the model, put right.
-use Rattle.sleetanvil.proofs.Refused.{as-worked}
+use Rattle.sleetanvil.proofs.Refused.{as_worked}
 use borrow.Author.Rules.{rules}
 use Rattle.sleetanvil.proofs.sleet_work.Statement.{statement}
 use Rattle.sleetanvil.proofs.sleet_work.Tie as tie
@@ -29,7 +29,7 @@ same-length-3 : tie.Need-same-length-3
 same-length-3 c = search rules
 
 returns : tie.Need-returns
-returns c = rw c.answer-of.ensures (as-worked _ _ _ _ _ _ c.before.before.before.before.before.before.before.before.before.before.before.before.before.state-of.ensures c.before.before.before.before.before.before.before.before.before.before.before.before.part_of.ensures c.before.before.before.before.before.before.before.before.before.before.before.stand-in.ensures c.before.before.before.before.before.before.before.work.ensures)
+returns c = rw c.answer-of.ensures (as_worked _ _ _ _ _ _ c.before.before.before.before.before.before.before.before.before.before.before.before.before.state-of.ensures c.before.before.before.before.before.before.before.before.before.before.before.before.part_of.ensures c.before.before.before.before.before.before.before.before.before.before.before.stand-in.ensures c.before.before.before.before.before.before.before.work.ensures)
 
 pub sleet-work-spec : {M : Type 1} → statement M
 sleet-work-spec =

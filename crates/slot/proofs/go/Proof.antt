@@ -5,7 +5,7 @@ use native.Mathlib.Omega.{arith}
 use lib.ListN.{length}
 use borrow.Author.Rules.{rules}
 use Rattle.card.specs.Card.{card}
-use Rattle.slot.proofs.Loop.{Going, going_start, out-long, stands, going_on, going-off}
+use Rattle.slot.proofs.Loop.{Going, going_start, out_long, stands, going_on, going_off}
 use Rattle.slot.proofs.go.Statement.{statement}
 use Rattle.slot.proofs.go.Tie as tie
 
@@ -46,10 +46,10 @@ same-length-2 : tie.Need-same-length-2 invariant-loop decreases-loop
 same-length-2 c = c.before.before.before.before.before.before.before.bits.given ∙ c.before.before.before.before.before.before.before.before.before.before.before.before.before.before.loop.invariant.fits.bits ∙ sym c.before.before.before.before.before.before.before.before.before.before.before.before.before.before.before.before.before.before.before.before.requires.bits
 
 same-length-3 : tie.Need-same-length-3 invariant-loop decreases-loop
-same-length-3 c = c.before.before.before.before.before.out.given ∙ out-long _ _ _ _ _ _ c.before.before.before.before.before.before.before.before.before.before.before.before.before.before.loop.invariant
+same-length-3 c = c.before.before.before.before.before.out.given ∙ out_long _ _ _ _ _ _ c.before.before.before.before.before.before.before.before.before.before.before.before.before.before.loop.invariant
 
 returns : tie.Need-returns invariant-loop decreases-loop
-returns c = rw c.so_far.ensures (rw c.before.before.before.before.before.before.before.before.before.before.before.before.before.before.before.start.ensures at (going-off _ _ _ _ _ _ c.before.before.before.before.before.before.before.before.before.before.before.before.before.before.loop.invariant _ _ _ _ c.before.before.before.before.before.before.before.before.before.before.onward.ensures _ c.before.before.r.given.1))
+returns c = rw c.so_far.ensures (rw c.before.before.before.before.before.before.before.before.before.before.before.before.before.before.before.start.ensures at (going_off _ _ _ _ _ _ c.before.before.before.before.before.before.before.before.before.before.before.before.before.before.loop.invariant _ _ _ _ c.before.before.before.before.before.before.before.before.before.before.onward.ensures _ c.before.before.r.given.1))
 
 pub go-spec : {M : Type 1} → statement M
 go-spec =

@@ -2,7 +2,7 @@
 use mathlib.Core.Path.{sym, ◌∙◌}
 use native.Mathlib.Omega.{arith}
 use borrow.Author.Rules.{rules}
-use Rattle.slot.proofs.Turns.{further, turn-stops, turn-full, turn-goes}
+use Rattle.slot.proofs.Turns.{further, turn_stops, turn_full, turn_goes}
 use Rattle.slot.proofs.onward.Statement.{statement}
 use Rattle.slot.proofs.onward.Tie as tie
 
@@ -25,7 +25,7 @@ sub-if1 : tie.Need-overflow-sub-if1
 sub-if1 c = search rules
 
 returns : tie.Need-returns
-returns c = turn-full _ _ _ _ _ _ (sym c.before.before.before.before.before.before.next-at.ensures ∙ c.before.before.before.before.e.given.1) (omega (arith, c.if1.true, c.before.before.room_of.ensures))
+returns c = turn_full _ _ _ _ _ _ (sym c.before.before.before.before.before.before.next-at.ensures ∙ c.before.before.before.before.e.given.1) (omega (arith, c.if1.true, c.before.before.room_of.ensures))
 
 add-records : tie.Need-overflow-add-records
 add-records c = omega (arith, c.before.before.before.before.before.before.before.before.before.before.before.before.requires.1, further _ _ c.before.before.before.before.before.before.before.before.before.before.before.before.requires.1.inside _ _ (sym c.before.before.before.before.before.before.before.next-at.ensures ∙ c.before.before.before.before.before.e.given.1))
@@ -37,7 +37,7 @@ turn-requires : tie.Need-turn-requires
 turn-requires c κs = (c.before.before.before.before.before.before.before.before.before.before.before.before.before.before.before.before.requires.0, omega (arith, c.before.before.before.before.before.before.before.before.before.before.before.before.before.before.before.before.requires.1, c.before.before.before.before.before.if1.false, c.before.before.before.before.before.before.before.room_of.ensures))
 
 returns-2 : tie.Need-returns-2
-returns-2 c = turn-stops _ _ _ _ _ _ (sym c.before.before.before.before.next-at.ensures ∙ c.before.before.why.given.1) c.refusal-of.ensures
+returns-2 c = turn_stops _ _ _ _ _ _ (sym c.before.before.before.before.next-at.ensures ∙ c.before.before.why.given.1) c.refusal-of.ensures
 
 same_length : tie.Need-same-length
 same_length c = search rules
@@ -49,7 +49,7 @@ same-length-3 : tie.Need-same-length-3
 same-length-3 c = search rules
 
 returns-3 : tie.Need-returns-3
-returns-3 c = turn-goes _ _ _ _ _ _ _ _ _ (sym c.before.before.before.before.before.before.before.before.before.before.before.before.before.before.before.before.before.before.next-at.ensures ∙ c.before.before.before.before.before.before.before.before.before.before.before.before.before.before.before.before.e.given.1) c.before.before.before.before.before.before.before.before.before.before.before.before.before.before.room_of.ensures (omega (arith, c.before.before.before.before.before.before.before.before.before.before.before.before.if1.false)) c.before.before.before.before.before.before.turn.ensures.0 c.before.before.before.before.before.before.turn.ensures.1
+returns-3 c = turn_goes _ _ _ _ _ _ _ _ _ (sym c.before.before.before.before.before.before.before.before.before.before.before.before.before.before.before.before.before.before.next-at.ensures ∙ c.before.before.before.before.before.before.before.before.before.before.before.before.before.before.before.before.e.given.1) c.before.before.before.before.before.before.before.before.before.before.before.before.before.before.room_of.ensures (omega (arith, c.before.before.before.before.before.before.before.before.before.before.before.before.if1.false)) c.before.before.before.before.before.before.turn.ensures.0 c.before.before.before.before.before.before.turn.ensures.1
 
 pub onward-spec : {M : Type 1} → statement M
 onward-spec =

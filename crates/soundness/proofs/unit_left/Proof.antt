@@ -2,7 +2,7 @@ use borrow.Author.Tests.{le-ltb}
 use mathlib.Core.Path.{sym}
 use Prim.Native.Nat.{◌<◌}
 use Rattle.part.specs.Part.{page}
-use Rattle.soundness.proofs.Division.{div-ltb}
+use Rattle.soundness.proofs.Division.{div_ltb}
 -- An operation has a unit left; for an erase the length is not multiplied out.
 use native.Mathlib.Omega.{arith}
 use native.Mathlib.Nat.{mul-zero}
@@ -43,7 +43,7 @@ returns-3 c = rw (c.enum-told2.given.1, c.before.before.page.ensures)
 returns-4 : tie.Need-returns-4
 returns-4 c =
     let pos : 0 < page c.before.before.before.before.before.args.g = omega (arith, c.before.before.before.before.page.ensures, c.before.if1.false) in
-    rw (c.before.before.enum-told3.given.1, c.before.before.before.before.page.ensures, c.wide.ensures) (div-ltb c.before.before.before.before.before.args.done (page c.before.before.before.before.before.args.g) c.before.before.before.before.before.args.g.pages pos)
+    rw (c.before.before.enum-told3.given.1, c.before.before.before.before.page.ensures, c.wide.ensures) (div_ltb c.before.before.before.before.before.args.done (page c.before.before.before.before.before.args.g) c.before.before.before.before.before.args.g.pages pos)
 
 returns-5 : tie.Need-returns-5
 returns-5 c = rw c.enum-told4.given.1

@@ -4,7 +4,7 @@ use mathlib.Core.Path.{refl}
 use native.Mathlib.Omega.{arith}
 use borrow.Author.Rules.{rules}
 use lib.ListN.{length-set}
-use Rattle.stream.proofs.Shifting.{Any, Streaming, before-first, moved, load_moves, none_left, no_shift}
+use Rattle.stream.proofs.Shifting.{Any, Streaming, before_first, moved, load_moves, none_left, no_shift_lem}
 use Rattle.stream.proofs.loads.Statement.{statement}
 use Rattle.stream.proofs.loads.Tie as tie
 
@@ -24,43 +24,43 @@ most-requires : tie.Need-most-requires invariant-loop decreases-loop
 most-requires c κs = search rules
 
 loop-holds : tie.Need-loop-init invariant-loop decreases-loop
-loop-holds c = before-first Any c.before.before.before.before.before.args.s c.before.before.before.before.before.args.log.now c.before.before.before.before.before.args.at c.before.before.before.before.before.args.written c.before.most.result c.before.before.before.before.before.args.cache.now c.before.before.before.before.before.args.out.now (record { inside = c.before.before.before.before.before.requires.2; before = c.before.before.before.before.before.requires.3; most = c.before.most.ensures })
+loop-holds c = before_first Any c.before.before.before.before.before.args.s c.before.before.before.before.before.args.log.now c.before.before.before.before.before.args.at c.before.before.before.before.before.args.written c.before.most.result c.before.before.before.before.before.args.cache.now c.before.before.before.before.before.args.out.now (record { inside = c.before.before.before.before.before.requires.2; before = c.before.before.before.before.before.requires.3; most = c.before.most.ensures })
 
 mul-place : tie.Need-overflow-mul-place invariant-loop decreases-loop
-mul-place c = omega (arith, c.before.loop.invariant.roomy.inside, c.before.loop.invariant.roomy.before, c.before.loop.invariant.roomy.most, c.before.loop.invariant.out-keeps)
+mul-place c = omega (arith, c.before.loop.invariant.roomy.inside, c.before.loop.invariant.roomy.before, c.before.loop.invariant.roomy.most, c.before.loop.invariant.out_keeps)
 
 add-place : tie.Need-overflow-add-place invariant-loop decreases-loop
-add-place c = omega (arith, c.before.loop.invariant.roomy.inside, c.before.loop.invariant.roomy.before, c.before.loop.invariant.roomy.most, c.before.loop.invariant.out-keeps)
+add-place c = omega (arith, c.before.loop.invariant.roomy.inside, c.before.loop.invariant.roomy.before, c.before.loop.invariant.roomy.most, c.before.loop.invariant.out_keeps)
 
 shared-slice-read-if1 : tie.Need-shared-slice-read-if1 invariant-loop decreases-loop
-shared-slice-read-if1 c = omega (arith, c.before.before.loop.invariant.roomy.inside, c.before.before.loop.invariant.roomy.before, c.before.before.loop.invariant.roomy.most, c.before.before.loop.invariant.out-keeps)
+shared-slice-read-if1 c = omega (arith, c.before.before.loop.invariant.roomy.inside, c.before.before.loop.invariant.roomy.before, c.before.before.loop.invariant.roomy.most, c.before.before.loop.invariant.out_keeps)
 
 at-column-requires : tie.Need-at-column-requires invariant-loop decreases-loop
 at-column-requires c κs = search rules
 
 same_length : tie.Need-same-length invariant-loop decreases-loop
-same_length c = c.before.before.before.before.loop.invariant.cache-long
+same_length c = c.before.before.before.before.loop.invariant.cache_long
 
 same-length-2 : tie.Need-same-length-2 invariant-loop decreases-loop
-same-length-2 c = c.before.before.before.before.loop.invariant.out-keeps
+same-length-2 c = c.before.before.before.before.loop.invariant.out_keeps
 
 returns : tie.Need-returns invariant-loop decreases-loop
-returns c = ((λ m. rw c.at-column.ensures (c.before.before.before.before.loop.invariant.done c.before.before.before.before.before.before.before.before.before.before.args.g tt m)), no_shift c.before.before.before.before.before.before.before.before.before.before.args.log.now c.before.before.before.before.before.before.before.before.before.before.args.at c.before.before.before.before.before.before.before.before.before.before.args.written c.before.before.before.before.before.before.before.before.before.before.args.out.now c.before.before.before.before.loop.i _ refl (λ e. omega (arith, e, c.before.if1.true)))
+returns c = ((λ m. rw c.at-column.ensures (c.before.before.before.before.loop.invariant.done c.before.before.before.before.before.before.before.before.before.before.args.g tt m)), no_shift_lem c.before.before.before.before.before.before.before.before.before.before.args.log.now c.before.before.before.before.before.before.before.before.before.before.args.at c.before.before.before.before.before.before.before.before.before.before.args.written c.before.before.before.before.before.before.before.before.before.before.args.out.now c.before.before.before.before.loop.i _ refl (λ e. omega (arith, e, c.before.if1.true)))
 
 add-store-at : tie.Need-overflow-add-store-at invariant-loop decreases-loop
-add-store-at c = omega (arith, c.before.before.before.before.loop.invariant.roomy.inside, c.before.before.before.before.loop.invariant.roomy.before, c.before.before.before.before.loop.invariant.roomy.most, c.before.before.before.before.loop.invariant.out-keeps)
+add-store-at c = omega (arith, c.before.before.before.before.loop.invariant.roomy.inside, c.before.before.before.before.loop.invariant.roomy.before, c.before.before.before.before.loop.invariant.roomy.most, c.before.before.before.before.loop.invariant.out_keeps)
 
 shared-slice-read-store-at : tie.Need-shared-slice-read-store-at invariant-loop decreases-loop
-shared-slice-read-store-at c = omega (arith, c.before.before.before.before.before.loop.invariant.roomy.inside, c.before.before.before.before.before.loop.invariant.roomy.before, c.before.before.before.before.before.loop.invariant.roomy.most, c.before.before.before.before.before.loop.invariant.out-keeps)
+shared-slice-read-store-at c = omega (arith, c.before.before.before.before.before.loop.invariant.roomy.inside, c.before.before.before.before.before.loop.invariant.roomy.before, c.before.before.before.before.before.loop.invariant.roomy.most, c.before.before.before.before.before.loop.invariant.out_keeps)
 
 store-at-requires : tie.Need-store-at-requires invariant-loop decreases-loop
 store-at-requires c κs = search rules
 
 add-out : tie.Need-overflow-add-out invariant-loop decreases-loop
-add-out c = omega (arith, c.before.before.before.before.before.before.before.before.loop.invariant.roomy.inside, c.before.before.before.before.before.before.before.before.loop.invariant.roomy.before, c.before.before.before.before.before.before.before.before.loop.invariant.roomy.most, c.before.before.before.before.before.before.before.before.loop.invariant.out-keeps)
+add-out c = omega (arith, c.before.before.before.before.before.before.before.before.loop.invariant.roomy.inside, c.before.before.before.before.before.before.before.before.loop.invariant.roomy.before, c.before.before.before.before.before.before.before.before.loop.invariant.roomy.most, c.before.before.before.before.before.before.before.before.loop.invariant.out_keeps)
 
 slice-write-out : tie.Need-slice-write-out invariant-loop decreases-loop
-slice-write-out c = omega (arith, c.before.before.before.before.before.before.before.before.loop.invariant.roomy.inside, c.before.before.before.before.before.before.before.before.loop.invariant.roomy.before, c.before.before.before.before.before.before.before.before.loop.invariant.roomy.most, c.before.before.before.before.before.before.before.before.loop.invariant.out-keeps)
+slice-write-out c = omega (arith, c.before.before.before.before.before.before.before.before.loop.invariant.roomy.inside, c.before.before.before.before.before.before.before.before.loop.invariant.roomy.before, c.before.before.before.before.before.before.before.before.loop.invariant.roomy.most, c.before.before.before.before.before.before.before.before.loop.invariant.out_keeps)
 
 next-column-requires : tie.Need-next-column-requires invariant-loop decreases-loop
 next-column-requires c κs = search rules
@@ -81,10 +81,10 @@ at-column-requires-2 : tie.Need-at-column-requires-2 invariant-loop decreases-lo
 at-column-requires-2 c κs = search rules
 
 same-length-3 : tie.Need-same-length-3 invariant-loop decreases-loop
-same-length-3 c = c.before.before.loop.invariant.cache-long
+same-length-3 c = c.before.before.loop.invariant.cache_long
 
 same-length-4 : tie.Need-same-length-4 invariant-loop decreases-loop
-same-length-4 c = c.before.before.loop.invariant.out-keeps
+same-length-4 c = c.before.before.loop.invariant.out_keeps
 
 returns-2 : tie.Need-returns-2 invariant-loop decreases-loop
 returns-2 c = ((λ m. rw c.at-column2.ensures (c.before.before.loop.invariant.done c.before.before.before.before.before.before.before.before.args.g tt m)), none_left _ _ _ _ _ _ c.before.before.loop.invariant.roomy (omega (arith, c.before.loop-test.false)))

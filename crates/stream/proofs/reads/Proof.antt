@@ -1,7 +1,7 @@
 -- The shifts of a cache read: those of one in the page, or those of any.
 use mathlib.Core.Path.{sym, ◌∙◌}
 use borrow.Author.Rules.{rules}
-use Rattle.stream.proofs.Shifting.{in-page}
+use Rattle.stream.proofs.Shifting.{in_page_lem}
 use Rattle.stream.proofs.reads.Statement.{statement}
 use Rattle.stream.proofs.reads.Tie as tie
 
@@ -11,7 +11,7 @@ in-page-requires c κs = search rules
 reads-round-requires : tie.Need-reads-round-requires
 reads-round-requires c κs =
     let p = c.before.before.before.before.before.before.before.requires in
-    (p.0, p.1, p.2, p.3, in-page c.before.before.before.before.before.before.before.args.g c.before.before.before.before.before.before.before.args.cache.now c.before.before.before.before.before.before.before.args.s.bus.transfer.column (sym c.before.before.in-page.ensures ∙ c.before.if1.true))
+    (p.0, p.1, p.2, p.3, in_page_lem c.before.before.before.before.before.before.before.args.g c.before.before.before.before.before.before.before.args.cache.now c.before.before.before.before.before.before.before.args.s.bus.transfer.column (sym c.before.before.in-page.ensures ∙ c.before.if1.true))
 
 same_length : tie.Need-same-length
 same_length c = search rules

@@ -3,8 +3,8 @@ use Prim.Native.Nat.{◌-◌}
 use native.Mathlib.Omega.{arith}
 use borrow.Author.Rules.{rules}
 use lib.ListN.{length, length-set}
-use Rattle.texts.specs.Text.{upToNul}
-use Rattle.texts.proofs.Laying.{too_short, Copying, begun, left, copied, laid-whole}
+use Rattle.texts.specs.Text.{up_to_nul}
+use Rattle.texts.proofs.Laying.{too_short, Copying, begun, left, copied, laid_whole}
 use Rattle.texts.proofs.lay.Statement.{statement}
 use Rattle.texts.proofs.lay.Tie as tie
 
@@ -12,7 +12,7 @@ abbrev invariant-loop : tie.invariant-loop
 invariant-loop row out₀ i₀ b₀ out i b = Copying row out₀ out i b
 
 abbrev decreases-loop : tie.decreases-loop
-decreases-loop row out₀ i₀ b₀ out i b = length (upToNul row) - i
+decreases-loop row out₀ i₀ b₀ out i b = length (up_to_nul row) - i
 
 nul-at-requires : tie.Need-nul-at-requires invariant-loop decreases-loop
 nul-at-requires c κs = search rules
@@ -54,7 +54,7 @@ same_length : tie.Need-same-length invariant-loop decreases-loop
 same_length c = simp length-set c.before.loop.invariant.long
 
 returns-2 : tie.Need-returns-2 invariant-loop decreases-loop
-returns-2 c = laid-whole c.before.loop.invariant c.loop-test.false
+returns-2 c = laid_whole c.before.loop.invariant c.loop-test.false
 
 pub lay-spec : {M : Type 1} → statement M
 lay-spec =

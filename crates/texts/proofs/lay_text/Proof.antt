@@ -3,7 +3,7 @@ use mathlib.Core.List.{List}
 use mathlib.Core.Path.{ap, ◌∙◌}
 use Prim.Native.Nat.{ℕ}
 use borrow.Author.Rules.{rules}
-use Rattle.texts.specs.Text.{meanings, bytes, textLaid}
+use Rattle.texts.specs.Text.{meanings, bytes, text_laid}
 use Rattle.texts.proofs.Words.{rows_of, table, said}
 use Rattle.texts.proofs.lay_text.Statement.{statement}
 use Rattle.texts.proofs.lay_text.Tie as tie
@@ -19,7 +19,7 @@ same_length c = search rules
 
 returns : tie.Need-returns
 unfolding meanings bytes rows_of table
-returns c = c.before.before.lay-words.ensures ∙ ap (λ (t : List ℕ). textLaid t c.before.before.before.before.before.before.args.out.now) (said c.before.before.before.before.before.before.args.refusal)
+returns c = c.before.before.lay-words.ensures ∙ ap (λ (t : List ℕ). text_laid t c.before.before.before.before.before.before.args.out.now) (said c.before.before.before.before.before.before.args.refusal)
 
 pub lay-text-spec : {M : Type 1} → statement M
 lay-text-spec =

@@ -4,16 +4,16 @@ use Prim.Native.Nat.{◌≤◌, ◌-◌}
 use native.Mathlib.Omega.{arith}
 use borrow.Author.Rules.{rules}
 use lib.ListN.{length}
-use Rattle.texts.specs.Text.{upToNul}
-use Rattle.texts.proofs.Scans.{words-short, goes_on, has_ended}
+use Rattle.texts.specs.Text.{up_to_nul}
+use Rattle.texts.proofs.Scans.{words_short, goes_on, has_ended}
 use Rattle.texts.proofs.nul_at.Statement.{statement}
 use Rattle.texts.proofs.nul_at.Tie as tie
 
 abbrev invariant-loop : tie.invariant-loop
-invariant-loop row i₀ i = i ≤ length (upToNul row)
+invariant-loop row i₀ i = i ≤ length (up_to_nul row)
 
 abbrev decreases-loop : tie.decreases-loop
-decreases-loop row i₀ i = length (upToNul row) - i
+decreases-loop row i₀ i = length (up_to_nul row) - i
 
 loop-holds : tie.Need-loop-init invariant-loop decreases-loop
 loop-holds c = omega arith
@@ -22,7 +22,7 @@ byte-at-requires : tie.Need-byte-at-requires invariant-loop decreases-loop
 byte-at-requires c κs = search rules
 
 add-i : tie.Need-overflow-add-i invariant-loop decreases-loop
-add-i c = omega (arith, words-short c.before.before.before.before.args.row.now)
+add-i c = omega (arith, words_short c.before.before.before.before.args.row.now)
 
 loop-less : tie.Need-loop-smaller invariant-loop decreases-loop
 loop-less c =

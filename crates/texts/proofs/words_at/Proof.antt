@@ -5,13 +5,13 @@ use Prim.Native.Nat.{◌≤◌, ◌-◌}
 use native.Mathlib.Omega.{arith}
 use borrow.Author.Rules.{rules}
 use lib.ListN.{length, drop}
-use Rattle.texts.specs.Text.{behindNumber}
+use Rattle.texts.specs.Text.{behind_number}
 use Rattle.texts.proofs.Scans.{hit, missed, none_left}
 use Rattle.texts.proofs.words_at.Statement.{statement}
 use Rattle.texts.proofs.words_at.Tie as tie
 
 abbrev invariant-loop : tie.invariant-loop
-invariant-loop table n inside₀ i₀ inside i = (i ≤ length table) × (behindNumber inside n table (drop i table) ≡ behindNumber true n table table)
+invariant-loop table n inside₀ i₀ inside i = (i ≤ length table) × (behind_number inside n table (drop i table) ≡ behind_number true n table table)
 
 abbrev decreases-loop : tie.decreases-loop
 decreases-loop table n inside₀ i₀ inside i = length table - i

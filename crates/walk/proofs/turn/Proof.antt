@@ -7,8 +7,8 @@ use Rattle.device.specs.declared.State.{State}
 use Rattle.device.specs.Machine.{machine}
 use Rattle.device.specs.Work.{unitwise}
 use Rattle.device.specs.Step.{step}
-use Rattle.buslog.proofs.RoundTrip.{over_none, over-one}
-use Rattle.walk.proofs.Turns.{work-ready}
+use Rattle.buslog.proofs.RoundTrip.{over_none, over_one}
+use Rattle.walk.proofs.Turns.{work_ready}
 use borrow.Author.Rules.{rules}
 use Rattle.walk.proofs.turn.Statement.{statement}
 use Rattle.walk.proofs.turn.Tie as tie
@@ -41,7 +41,7 @@ wide-short-requires : tie.Need-wide-short-requires
 wide-short-requires c κs = search rules
 
 work-requires : tie.Need-work-requires
-work-requires c κs = work-ready c.before.before.before.before.before.before.before.before.before.before.args.g c.before.before.before.before.before.before.before.before.before.before.requires.0 (machine c.before.before.before.before.before.before.before.before.before.before.args.s c.before.before.before.before.before.before.before.before.before.before.args.cells.now c.before.before.before.before.before.before.before.before.before.before.args.cache.now c.before.before.before.before.before.before.before.before.before.before.args.counts.now) c.before.before.before.before.before.before.before.before.before.before.requires.1
+work-requires c κs = work_ready c.before.before.before.before.before.before.before.before.before.before.args.g c.before.before.before.before.before.before.before.before.before.before.requires.0 (machine c.before.before.before.before.before.before.before.before.before.before.args.s c.before.before.before.before.before.before.before.before.before.before.args.cells.now c.before.before.before.before.before.before.before.before.before.before.args.cache.now c.before.before.before.before.before.before.before.before.before.before.args.counts.now) c.before.before.before.before.before.before.before.before.before.before.requires.1
 
 enum-known-e-3 : tie.Need-enum-known-e-3
 enum-known-e-3 c = search rules
@@ -72,7 +72,7 @@ returns-2 : tie.Need-returns-2
 unfolding step
 returns-2 c =
     let room : c.before.before.before.before.before.before.before.before.before.before.before.before.args.at < length c.before.before.before.before.before.before.before.before.before.before.before.before.args.out.now = omega (arith, rw c.before.before.before.before.before.before.e.given.1 at c.before.before.before.before.before.before.before.before.before.before.before.before.requires.2) in
-    rw c.before.before.before.before.before.before.e.given.1 (c.before.before.before.shift.ensures.0 (machine c.before.before.before.before.before.before.before.before.before.before.before.before.args.s c.before.before.before.before.before.before.before.before.before.before.before.before.args.cells.now c.before.before.before.before.before.before.before.before.before.before.before.before.args.cache.now c.before.before.before.before.before.before.before.before.before.before.before.before.args.counts.now), rw c.before.before.before.shift.ensures.1 (over-one c.before.before.before.before.before.before.before.before.before.before.before.before.args.out.now c.before.before.before.before.before.before.before.before.before.before.before.before.args.at _ room))
+    rw c.before.before.before.before.before.before.e.given.1 (c.before.before.before.shift.ensures.0 (machine c.before.before.before.before.before.before.before.before.before.before.before.before.args.s c.before.before.before.before.before.before.before.before.before.before.before.before.args.cells.now c.before.before.before.before.before.before.before.before.before.before.before.before.args.cache.now c.before.before.before.before.before.before.before.before.before.before.before.before.args.counts.now), rw c.before.before.before.shift.ensures.1 (over_one c.before.before.before.before.before.before.before.before.before.before.before.before.args.out.now c.before.before.before.before.before.before.before.before.before.before.before.before.args.at _ room))
 
 same-length-3 : tie.Need-same-length-3
 same-length-3 c = search rules

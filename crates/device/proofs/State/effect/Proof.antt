@@ -1,6 +1,6 @@
 use mathlib.Core.Path.{sym, ap, ◌∙◌}
 use Rattle.codes.specs.declared.Instruction.{Instruction}
-use Rattle.device.specs.Machine.{onCounts}
+use Rattle.device.specs.Machine.{on_counts}
 -- What each instruction does: the arm's instruction decides the definition.
 use Rattle.device.specs.Work.{unitwise}
 use Rattle.device.specs.Instructions.{resets, effect}
@@ -107,7 +107,7 @@ unfolding effect
 returns-5 c =
     λ m.
     (rw c.before.before.before.before.row2.ensures at (c.before.before.programs.ensures m))
-    ∙ ap (λ (i : Instruction). effect c.before.before.before.before.before.before.before.before.before.before.before.args.g (unitwise c.before.before.before.before.before.before.before.before.before.before.before.args.g) i (onCounts c.before.before.before.before.before.before.before.before.before.before.before.args.self c.before.before.before.before.before.before.before.before.before.before.before.args.counts.now m)) (sym c.before.before.before.before.before.enum-told5.given.1)
+    ∙ ap (λ (i : Instruction). effect c.before.before.before.before.before.before.before.before.before.before.before.args.g (unitwise c.before.before.before.before.before.before.before.before.before.before.before.args.g) i (on_counts c.before.before.before.before.before.before.before.before.before.before.before.args.self c.before.before.before.before.before.before.before.before.before.before.before.args.counts.now m)) (sym c.before.before.before.before.before.enum-told5.given.1)
 
 same-length-2 : tie.Need-same-length-2
 same-length-2 c = search rules
@@ -117,7 +117,7 @@ unfolding effect
 returns-6 c =
     λ m.
     (rw c.before.before.before.before.row3.ensures at (c.before.before.erases.ensures m))
-    ∙ ap (λ (i : Instruction). effect c.before.before.before.before.before.before.before.before.before.before.before.args.g (unitwise c.before.before.before.before.before.before.before.before.before.before.before.args.g) i (onCounts c.before.before.before.before.before.before.before.before.before.before.before.args.self c.before.before.before.before.before.before.before.before.before.before.before.args.counts.now m)) (sym c.before.before.before.before.before.enum-told6.given.1)
+    ∙ ap (λ (i : Instruction). effect c.before.before.before.before.before.before.before.before.before.before.before.args.g (unitwise c.before.before.before.before.before.before.before.before.before.before.before.args.g) i (on_counts c.before.before.before.before.before.before.before.before.before.before.before.args.self c.before.before.before.before.before.before.before.before.before.before.before.args.counts.now m)) (sym c.before.before.before.before.before.enum-told6.given.1)
 
 returns-7 : tie.Need-returns-7
 unfolding effect resets unitwise

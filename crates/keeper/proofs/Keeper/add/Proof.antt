@@ -4,8 +4,8 @@ use mathlib.Core.Bool.{true}
 use native.Mathlib.Omega.{arith}
 use borrow.Author.Rules.{rules}
 use borrow.Author.Tests.{not-true, not-false, le-leb, lt-leb, eq-eqb, ne_eqb}
-use Rattle.keeper.specs.Keeper.{SoundQueue, queueAt, keeperSound, addOf}
-use Rattle.keeper.proofs.Sound.{sound-facts}
+use Rattle.keeper.specs.Keeper.{SoundQueue, queue_at, keeper_sound, add_of}
+use Rattle.keeper.proofs.Sound.{sound_facts}
 use Rattle.keeper.proofs.Keeper.add.Statement.{statement}
 use Rattle.keeper.proofs.Keeper.add.Tie as tie
 
@@ -16,14 +16,14 @@ not-added-requires : tie.Need-not-added-requires
 not-added-requires c κs = search rules
 
 returns : tie.Need-returns
-unfolding addOf
+unfolding add_of
 returns c = rw (c.not-added.ensures, ← c.before.before.sound.ensures, not-true c.before.before.sound.result c.before.if1.true)
 
 not-added-requires-2 : tie.Need-not-added-requires-2
 not-added-requires-2 c κs = search rules
 
 returns-2 : tie.Need-returns-2
-unfolding addOf
+unfolding add_of
 returns-2 c = rw (c.not-added2.ensures, ← c.before.before.before.sound.ensures, not-false c.before.before.before.sound.result c.before.before.if1.false, le-leb _ _ c.before.if2.true)
 
 queue-requires : tie.Need-queue-requires
@@ -33,14 +33,14 @@ not-added-requires-3 : tie.Need-not-added-requires-3
 not-added-requires-3 c κs = search rules
 
 returns-3 : tie.Need-returns-3
-unfolding addOf
+unfolding add_of
 returns-3 c = rw (c.not-added3.ensures, ← c.before.before.before.before.before.before.sound.ensures, not-false c.before.before.before.before.before.before.sound.result c.before.before.before.before.before.if1.false, lt-leb _ _ c.before.before.before.before.if2.false, ← c.before.before.before.queue.ensures, c.before.if3.true)
 
 put-requires : tie.Need-put-requires
 put-requires c κs =
     let a = c.before.before.before.before.before.before.args in
-    let t : keeperSound c.before.before.before.before.before.before.args.self ≡ true = sym c.before.before.before.before.before.sound.ensures ∙ not-false c.before.before.before.before.before.sound.result c.before.before.before.before.if1.false in
-    let s : SoundQueue (queueAt c.before.before.before.before.before.before.args.self c.before.before.before.before.before.before.args.core) = (sound-facts a.self t).queues a.core c.before.before.before.if2.false in
+    let t : keeper_sound c.before.before.before.before.before.before.args.self ≡ true = sym c.before.before.before.before.before.sound.ensures ∙ not-false c.before.before.before.before.before.sound.result c.before.before.before.before.if1.false in
+    let s : SoundQueue (queue_at c.before.before.before.before.before.before.args.self c.before.before.before.before.before.before.args.core) = (sound_facts a.self t).queues a.core c.before.before.before.if2.false in
     let q : SoundQueue c.before.before.queue.result = rw c.before.before.queue.ensures s in
     (q.place, omega (arith, q.eight, c.if3.false))
 
@@ -48,7 +48,7 @@ with-requires : tie.Need-with-requires
 with-requires c κs = search rules
 
 returns-4 : tie.Need-returns-4
-unfolding addOf
+unfolding add_of
 returns-4 c = rw (c.with.ensures, c.before.put.ensures, ← c.before.before.before.before.before.before.before.sound.ensures, not-false c.before.before.before.before.before.before.before.sound.result c.before.before.before.before.before.before.if1.false, lt-leb _ _ c.before.before.before.before.before.if2.false, ← c.before.before.before.before.queue.ensures, ne_eqb _ _ c.before.before.if3.false)
 
 pub add_spec : {M : Type 1} → statement M

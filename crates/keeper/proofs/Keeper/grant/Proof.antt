@@ -5,9 +5,9 @@ use native.Mathlib.Omega.{arith}
 use borrow.Author.Rules.{rules}
 use borrow.Author.Tests.{not-true, not-false}
 use Prim.Native.Nat.{◌+◌, ◌%◌}
-use Rattle.keeper.specs.Keeper.{SoundKeeper, grantOf}
-use Rattle.keeper.proofs.Searches.{found-waits}
-use Rattle.keeper.proofs.Sound.{sound-facts}
+use Rattle.keeper.specs.Keeper.{SoundKeeper, grant_of}
+use Rattle.keeper.proofs.Searches.{found_waits}
+use Rattle.keeper.proofs.Sound.{sound_facts}
 use Rattle.keeper.proofs.Keeper.grant.Statement.{statement}
 use Rattle.keeper.proofs.Keeper.grant.Tie as tie
 
@@ -18,11 +18,11 @@ not-granted-requires : tie.Need-not-granted-requires
 not-granted-requires c κs = search rules
 
 returns : tie.Need-returns
-unfolding grantOf
+unfolding grant_of
 returns c = rw (c.not-granted.ensures, ← c.before.before.sound.ensures, not-true c.before.before.sound.result c.before.if1.true)
 
 whose-turn-requires : tie.Need-whose-turn-requires
-whose-turn-requires c κs = (sound-facts c.before.before.args.self (sym c.before.sound.ensures ∙ not-false c.before.sound.result c.if1.false)).last
+whose-turn-requires c κs = (sound_facts c.before.before.args.self (sym c.before.sound.ensures ∙ not-false c.before.sound.result c.if1.false)).last
 
 enum-known-core : tie.Need-enum-known-core
 enum-known-core c = search rules
@@ -30,8 +30,8 @@ enum-known-core c = search rules
 take-requires : tie.Need-take-requires
 take-requires c κs =
     let k = c.before.before.before.before.before.before.args.self in
-    let s : SoundKeeper c.before.before.before.before.before.before.args.self = sound-facts k (sym c.before.before.before.before.before.sound.ensures ∙ not-false c.before.before.before.before.before.sound.result c.before.before.before.before.if1.false) in
-    let w = found-waits k ((k.last + 1) % 4) c.before.core.given.0.0 (omega arith) (sym c.before.before.before.whose-turn.ensures ∙ c.before.core.given.1) in
+    let s : SoundKeeper c.before.before.before.before.before.before.args.self = sound_facts k (sym c.before.before.before.before.before.sound.ensures ∙ not-false c.before.before.before.before.before.sound.result c.before.before.before.before.if1.false) in
+    let w = found_waits k ((k.last + 1) % 4) c.before.core.given.0.0 (omega arith) (sym c.before.before.before.whose-turn.ensures ∙ c.before.core.given.1) in
     (w.0, (s.queues c.before.core.given.0.0 w.0).place, w.1)
 
 enum_told : tie.Need-enum-told
@@ -41,11 +41,11 @@ not-granted-requires-2 : tie.Need-not-granted-requires-2
 not-granted-requires-2 c κs = search rules
 
 returns-2 : tie.Need-returns-2
-unfolding grantOf
+unfolding grant_of
 returns-2 c = rw (c.take.ensures, ← c.before.before.before.before.before.before.sound.ensures, not-false c.before.before.before.before.before.before.sound.result c.before.before.before.before.before.if1.false, ← c.before.before.before.before.whose-turn.ensures, c.before.before.core.given.1)
 
 returns-3 : tie.Need-returns-3
-unfolding grantOf
+unfolding grant_of
 returns-3 c = rw (c.not-granted2.ensures, ← c.before.before.before.before.before.sound.ensures, not-false c.before.before.before.before.before.sound.result c.before.before.before.before.if1.false, ← c.before.before.before.whose-turn.ensures, c.before.enum_told.given.1)
 
 pub grant-spec : {M : Type 1} → statement M
