@@ -144,6 +144,10 @@ def main():
                 return t
             return here.get(t, t)
 
+        aliases = re.findall(r"^use Rattle\.\S+ as (\S+)", text, re.M)
+        if aliases:
+            inside = r"(?<![^\s(){},;])(%s)\.([^\s(){}\[\],;.]+)" % "|".join(map(re.escape, aliases))
+            text = re.sub(inside, lambda m: m.group(1) + "." + moved.get(m.group(2), m.group(2)), text)
         return TOKEN.sub(one, text)
 
     for p, here in plan.items():

@@ -48,9 +48,9 @@ module _ (g : Geometry) (m : Machine) where
   pub checked : Checked (checked_as g m)
   unfolding check_of
   checked =
-      cond_keep Checked (not (sound_part g)) (λ e s. false_not_T (sound_part g) (not-true _ e) ((Laws.sound-exactly g).1 s))
+      cond_keep Checked (not (sound_part g)) (λ e s. false_not_T (sound_part g) (not-true _ e) ((Laws.sound_exactly g).1 s))
       (λ e.
-      let part : Sound g = (Laws.sound-exactly g).0 (true_T (sound_part g) (not-false _ e)) in
+      let part : Sound g = (Laws.sound_exactly g).0 (true_T (sound_part g) (not-false _ e)) in
       cond_keep Checked (not (eqb (length m.store.cells) (rows g * page g))) (λ e. (part, eqb-false _ _ (not-true _ e)))
       (λ e.
       let cells : CellsFit g m = record { part = part; cells = eqb-true _ _ (not-false _ e) } in
@@ -60,22 +60,22 @@ module _ (g : Geometry) (m : Machine) where
       cond_keep Checked (not (eqb (length m.counts) (rows g))) (λ e. (cache, eqb-false _ _ (not-true _ e)))
       (λ e.
       let counts : CountsFit g m = record { before = cache; counts = eqb-true _ _ (not-false _ e) } in
-      cond_keep Checked (not (sound_state g m.state)) (λ e. (counts, λ s. false_not_T (sound_state g m.state) (not-true _ e) ((Exactly.sound-exactly g m.state).1 s)))
-      (λ e. record { before = counts; state = (Exactly.sound-exactly g m.state).0 (true_T (sound_state g m.state) (not-false _ e)) })))))
+      cond_keep Checked (not (sound_state g m.state)) (λ e. (counts, λ s. false_not_T (sound_state g m.state) (not-true _ e) ((Exactly.sound_exactly g m.state).1 s)))
+      (λ e. record { before = counts; state = (Exactly.sound_exactly g m.state).0 (true_T (sound_state g m.state) (not-false _ e)) })))))
 
   part_yes : Sound g → sound_part g ≡ true
-  part_yes s = T_true (sound_part g) ((Laws.sound-exactly g).1 s)
+  part_yes s = T_true (sound_part g) ((Laws.sound_exactly g).1 s)
 
   state_yes : SoundState g m.state → sound_state g m.state ≡ true
-  state_yes s = T_true (sound_state g m.state) ((Exactly.sound-exactly g m.state).1 s)
+  state_yes s = T_true (sound_state g m.state) ((Exactly.sound_exactly g m.state).1 s)
 
   state_no : ¬ SoundState g m.state → sound_state g m.state ≡ false
-  state_no n = not_T_false (sound_state g m.state) (λ t. n ((Exactly.sound-exactly g m.state).0 t))
+  state_no n = not_T_false (sound_state g m.state) (λ t. n ((Exactly.sound_exactly g m.state).0 t))
 
   -- no other answer goes with what is known
   pub checked_only : (r : Refusal) → Checked r → checked_as g m ≡ r
   unfolding check_of
-  checked_only BadPart h = rw (not_T_false (sound_part g) (λ t. h ((Laws.sound-exactly g).0 t)))
+  checked_only BadPart h = rw (not_T_false (sound_part g) (λ t. h ((Laws.sound_exactly g).0 t)))
   checked_only BadCells h = rw (part_yes h.0, ne_eqb _ _ h.1)
   checked_only BadCache h = rw (part_yes h.0.part, eq-eqb _ _ h.0.cells, ne_eqb _ _ h.1)
   checked_only BadCounts h = rw (part_yes h.0.before.part, eq-eqb _ _ h.0.before.cells, eq-eqb _ _ h.0.cache, ne_eqb _ _ h.1)

@@ -1,4 +1,5 @@
 // The array at work: an operation in progress, and its units, run as one loop an operation. Document 01, "Work of the array".
+#![tactic(auto)]
 ghost use Rattle.std.specs.Prelude.{◌≡◌, ◌+◌, ◌-◌, ◌≤◌, ◌<◌, length, get_or, set};
 ghost use Rattle.std.specs.Int.Bits.{bit_and};
 ghost use Rattle.part.specs.Part.{page, Sound};
@@ -7,7 +8,7 @@ ghost use Rattle.array.specs.Jobs.{store, length_of, steps, written, many, onwar
 use part::{Column, Geometry, Row};
 
 // An operation, with its row; a reset's own operation has none.
-#[derive(Drop)]
+#[derive(Clone, Copy)]
 pub enum Job {
     Read(Row),
     Program(Row),
@@ -19,7 +20,7 @@ pub enum Job {
 pub const RESTART_UNITS: usize = 8;
 
 // The operation in progress with its units done, or none, and then nothing is left of the last one.
-#[derive(Drop)]
+#[derive(Clone, Copy)]
 pub enum Work {
     Idle,
     Busy(Job, usize),

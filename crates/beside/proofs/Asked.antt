@@ -12,10 +12,10 @@ use Rattle.kept.proofs.Exactly as state
 
 -- the tests in words
 pub part_sound : (g : Geometry) → sound_part g ≡ true → Sound g
-part_sound g e = (part.sound-exactly g).0 (true_T (sound_part g) e)
+part_sound g e = (part.sound_exactly g).0 (true_T (sound_part g) e)
 
 pub state_sound : (g : Geometry) (s : State) → sound_state g s ≡ true → SoundState g s
-state_sound g s e = (state.sound-exactly g s).0 (true_T (sound_state g s) e)
+state_sound g s e = (state.sound_exactly g s).0 (true_T (sound_state g s) e)
 
 -- a test that is asked by its negation
 module _ (a b : Bool) (h : b ≡ a) where

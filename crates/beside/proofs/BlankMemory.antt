@@ -58,7 +58,7 @@ blank_checks g cells cache counts = go (sound_part g) refl
         cond (not a) BadPart (cond (not (eqb cells (rows g * page g))) BadCells (cond (not (eqb cache (page g))) BadCache (cond (not (eqb counts (rows g))) BadCounts (cond (not (sound_state g power_up)) BadState Done))))
         ≡ cond (not a) BadPart (cond (not (eqb cells (rows g * page g))) BadCells (cond (not (eqb cache (page g))) BadCache (cond (not (eqb counts (rows g))) BadCounts Done)))
     go false e = refl
-    go true e = rw (T_true (sound_state g power_up) ((state.sound-exactly g power_up).1 (power_up_sound g (part_sound g e))))
+    go true e = rw (T_true (sound_state g power_up) ((state.sound_exactly g power_up).1 (power_up_sound g (part_sound g e))))
 
 pub blank_exactly : BlankExactly
 unfolding blank_of

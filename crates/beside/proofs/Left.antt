@@ -84,7 +84,7 @@ units_keep g s n m h = step_keeps g s m (Units n) tt h
 
 -- the units left of a sound machine
 left_sound : (g : Geometry) (m : Machine) → Sound g → SoundMachine g m → units_left g m.state ≡ left_in g m.state.work
-left_sound g m s h = sym (left_told g m.state (T_true _ ((part.sound-exactly g).1 s)) (T_true _ ((state.sound-exactly g m.state).1 h.state)) m.state.work refl)
+left_sound g m s h = sym (left_told g m.state (T_true _ ((part.sound_exactly g).1 s)) (T_true _ ((state.sound_exactly g m.state).1 h.state)) m.state.work refl)
 
 pub left_after : LeftAfter
 left_after g m n p =

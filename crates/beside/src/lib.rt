@@ -1,4 +1,5 @@
 // Beside a run: what a simulator asks and does between events. The next byte on DO, the units left, work of any length, blank memory.
+#![tactic(auto)]
 ghost use Rattle.std.specs.Prelude.{[], ◌≡◌};
 ghost use Rattle.device.specs.Machine.{machine};
 ghost use Rattle.device.specs.Work.{unitwise};
@@ -12,7 +13,7 @@ use refusals::Refusal;
 use walk::{Answer, Walk};
 
 // The byte that the next shift puts out, or why there is none to tell.
-#[derive(Drop)]
+#[derive(Clone, Copy)]
 pub struct Peeked {
     pub refusal: Refusal,
     pub byte: u8,

@@ -24,5 +24,5 @@ peek_refused g c cache = go (state_of c)
         else if not (eqb (length cache) (page (part_of g))) then 3
         else if not (sound_told (part_of g) x) then 5
         else 0)
-    go (Good s) = next.peek-exactly (part_of g) s cache
-    go Bad = rw (never_sound (part_of g)) at (next.peek-exactly (part_of g) no_state cache)
+    go (Good s) = next.peek_exactly (part_of g) s cache
+    go Bad = rw (never_sound (part_of g)) at (next.peek_exactly (part_of g) no_state cache)

@@ -1,5 +1,6 @@
 // The C functions beside a run: parts, lengths, soundness, the units of an operation, the next byte, blank memory, records and texts. Plain
 // numbers outside; every content is answered.
+#![tactic(auto)]
 ghost use Rattle.std.specs.Prelude.{◌≡◌};
 ghost use Rattle.part.specs.Part.{sound_part, fm25s005bi3, bench};
 ghost use Rattle.device.specs.Step.{power_up};

@@ -1,4 +1,5 @@
 // The card FM4428: what one command answers and changes. Document 02, item 5, and source document 001.
+#![tactic(auto)]
 ghost use Rattle.std.specs.Prelude.{◌&&◌, ◌≡◌, ◌+◌, ◌-◌, ◌*◌, ◌/◌, ◌%◌, ◌^◌, ◌≤◌, ◌<◌, eqb, length, set};
 ghost use Rattle.std.specs.Int.Bits.{bit_and};
 ghost use Rattle.part.specs.Choice.{if◌then◌else◌};
@@ -7,7 +8,7 @@ ghost use Rattle.card.specs.Table.{address_of, command_of};
 ghost use Rattle.card.specs.Card.{card, is_open, cell_at, bit_at, shut, clears_one, spends, writable, anew, counted, compared, commanded, told, answer_of, answer_length, sent};
 
 // How far the security code has been given: no step taken, a counter bit newly cleared, the first byte compared right too, passed.
-#[derive(Drop)]
+#[derive(Clone, Copy)]
 pub enum Stage {
     Fresh,
     Counted,
@@ -16,7 +17,7 @@ pub enum Stage {
 }
 
 // 001's seven commands, in its order; and what is none of them.
-#[derive(Drop)]
+#[derive(Clone, Copy)]
 pub enum Command {
     WriteWithBit,
     Write,

@@ -1,4 +1,5 @@
 // The card slot in C: the functions of include/sleetanvil.h, "the card slot". Plain numbers outside; every content is answered.
+#![tactic(auto)]
 ghost use Rattle.std.specs.Prelude.{◌≡◌};
 ghost use Rattle.cardlog.specs.Log.{bytes_of};
 ghost use Rattle.cardlog.specs.declared.Record.TheVariants.{Sent};
@@ -10,14 +11,14 @@ use slot::Answer;
 
 // A card: its stage, 0 to 3.
 #[repr(C)]
-#[derive(Drop)]
+#[derive(Clone, Copy)]
 pub struct CCard {
     pub stage: u8,
 }
 
 // The answer to a run.
 #[repr(C)]
-#[derive(Drop)]
+#[derive(Clone, Copy)]
 pub struct CCardAnswer {
     pub records: usize,
     pub used: usize,

@@ -1,5 +1,6 @@
 // A table of calls on the proved card slot: each line of the input is a case, and a line is printed for it. The expected lines are printed
 // by the independent model; none is copied from what this program printed. The head of the input says how a line is written.
+#![tactic(auto)]
 ghost use Rattle.std.specs.Prelude.{◌≤◌};
 
 use card::Stage;
@@ -7,7 +8,7 @@ use libc::STDOUT_FILENO;
 use slot::Answer;
 
 // What the letters of a line stand for: its name, a comment, or steps.
-#[derive(Drop)]
+#[derive(Clone, Copy)]
 enum Part {
     Name,
     Comment,
@@ -15,7 +16,7 @@ enum Part {
 }
 
 // What the steps of a line go by: the stage, and how many bytes are lent of the cells, of the protect bits and of the output.
-#[derive(Drop)]
+#[derive(Clone, Copy)]
 struct Given {
     stage: Stage,
     cells: usize,
@@ -25,7 +26,7 @@ struct Given {
 
 // Where the reading stands: what is given, the part of the line, and the letter whose digits are read, with how many are to come, or have
 // come for a log, and the number so far.
-#[derive(Drop)]
+#[derive(Clone, Copy)]
 struct Reader {
     given: Given,
     part: Part,

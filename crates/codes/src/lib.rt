@@ -1,11 +1,12 @@
 // The instructions and their codes: which one a byte begins, what a busy array lets in, and the bytes of those that act as chip select
 // rises. Document 01, "Instructions".
+#![tactic(auto)]
 ghost use Rattle.std.specs.Prelude.{◌≡◌};
 ghost use Rattle.codes.specs.Codes.{byte_of, instruction_of, open?, heard_as, form_bytes};
 
 // The instruction of a transfer. `Ignored` stands where there is none to carry out: no byte has come yet, the byte is no
 // instruction, or the array was busy as it came.
-#[derive(Drop)]
+#[derive(Clone, Copy)]
 pub enum Instruction {
     Ignored,
     WriteEnable,

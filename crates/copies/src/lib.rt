@@ -1,10 +1,11 @@
 // The three copies of the parameter page, and their reader. Document 02, item 1; the datasheet's section 10.
+#![tactic(auto)]
 ghost use Rattle.std.specs.Prelude.{◌≡◌, ◌≤◌, length};
 ghost use Rattle.sheet.specs.Numbers.{number_in};
 ghost use Rattle.copies.specs.Copies.{signed, checked, holds, sizes_in, read_of};
 
 // The four numbers of a page: D, S, K and N.
-#[derive(Drop)]
+#[derive(Clone, Copy)]
 pub struct Sizes {
     pub main: u32,
     pub spare: u16,
@@ -13,7 +14,7 @@ pub struct Sizes {
 }
 
 // What comes of reading the copies: which one, and its numbers.
-#[derive(Drop)]
+#[derive(Clone, Copy)]
 pub enum Found {
     At(u8, Sizes),
     NoCopy,

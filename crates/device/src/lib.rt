@@ -1,5 +1,6 @@
 // The device: its state, and what each event of the bus does to it.
 // Document 01, "Instructions" and "Work of the array". Each method takes the state whole and hands the next one back.
+#![tactic(auto)]
 ghost use Rattle.std.specs.Prelude.{◌≡◌};
 ghost use Rattle.array.specs.Jobs.{store};
 ghost use Rattle.transfer.specs.Transfer.{selects, with_pins};
@@ -16,7 +17,7 @@ use registers::{Pins, Registers};
 use transfer::{Bus, Transfer};
 
 // The device state: it goes in whole and comes back whole with each event.
-#[derive(Drop)]
+#[derive(Clone, Copy)]
 pub struct State {
     pub regs: Registers,
     pub bus: Bus,
@@ -24,7 +25,7 @@ pub struct State {
 }
 
 // A byte shifted: the next state, and the byte on DO.
-#[derive(Drop)]
+#[derive(Clone, Copy)]
 pub struct Shifted {
     pub state: State,
     pub out: u8,

@@ -1,4 +1,5 @@
 // The ECC of a page: its sectors, their marked bits, what is mended and what ECCS says. Document 02, item 3.
+#![tactic(auto)]
 ghost use Rattle.std.specs.Prelude.{◌≡◌, ◌≤◌, ◌<◌, max, length, get_or};
 ghost use Rattle.part.specs.Part.{page, Sound};
 ghost use Rattle.ecc.specs.Ecc.{sectored, sectors, sector_at, marked, worst, eccs, sector_turned, mended_sector, mended};
@@ -26,7 +27,7 @@ fn sectors(g: Geometry) -> usize
 }
 
 // A sector's two stretches of a page: its data bytes from `main` up to `past`, its spare ones from `spare` up to `end`.
-#[derive(Drop)]
+#[derive(Clone, Copy)]
 struct Sector {
     main: usize,
     past: usize,

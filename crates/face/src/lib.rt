@@ -1,4 +1,5 @@
 // A device state in the numbers of C: the structs of include/sleetanvil.h around it, and what its numbers stand for.
+#![tactic(auto)]
 ghost use Rattle.std.specs.Prelude.{◌≡◌};
 ghost use Rattle.part_numbers.specs.Numbers.{part_of};
 ghost use Rattle.face.specs.Face.{instruction_at, work_at, state_as, state_of, flag, faced, faced_job, face_of, sound_told, no_state, stand_in, handed_back};
@@ -13,7 +14,7 @@ use transfer::{Bus, Transfer};
 
 // The device state.
 #[repr(C)]
-#[derive(Drop)]
+#[derive(Clone, Copy)]
 pub struct CState {
     pub a0: u8,
     pub b0: u8,
@@ -34,7 +35,7 @@ pub struct CState {
 
 // The answer to a run.
 #[repr(C)]
-#[derive(Drop)]
+#[derive(Clone, Copy)]
 pub struct CAnswer {
     pub state: CState,
     pub records: usize,
@@ -45,7 +46,7 @@ pub struct CAnswer {
 
 // The answer to a run that was judged.
 #[repr(C)]
-#[derive(Drop)]
+#[derive(Clone, Copy)]
 pub struct CJudged {
     pub answer: CAnswer,
     pub orderly: bool,
@@ -53,28 +54,28 @@ pub struct CJudged {
 
 // The byte that the next shift will put out.
 #[repr(C)]
-#[derive(Drop)]
+#[derive(Clone, Copy)]
 pub struct CPeek {
     pub refusal: u8,
     pub byte: u8,
 }
 
 // The instruction of a code, if it has one.
-#[derive(Drop)]
+#[derive(Clone, Copy)]
 pub enum Code {
     Known(Instruction),
     Unknown,
 }
 
 // The operation of a job, a row and units, if they have one.
-#[derive(Drop)]
+#[derive(Clone, Copy)]
 pub enum Doing {
     Going(Work),
     Nowhere,
 }
 
 // The state that numbers stand for, if there is one.
-#[derive(Drop)]
+#[derive(Clone, Copy)]
 pub enum Told {
     Good(State),
     Bad,

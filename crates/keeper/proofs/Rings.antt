@@ -47,7 +47,7 @@ put_behind zero tags place tag e l m =
 put_behind (suc n) tags place tag e l m =
     let p : (place + suc n) % 8 ≡ ((place + 1) % 8 + n) % 8 = omega arith in
     let d : get_or (set tags ((place + suc n) % 8) tag) place 0 ≡ get_or tags place 0 = get_or-set_other tags ((place + suc n) % 8) place tag 0 (apart place (suc n) l (omega arith) m) in
-    rw (d, p, put_behind n tags ((place + 1) % 8) tag e (omega arith) (omega arith))
+    rw (d, p) (ap (λ (x : List ℕ). get_or tags place 0 ∷ x) (put_behind n tags ((place + 1) % 8) tag e (omega arith) (omega arith)))
 
 pub put_back : (q : Queue) (tag : ℕ) → length q.tags ≡ 8 → q.head < 8 → q.length < 8 → waiting_in (put_of q tag) ≡ waiting_in q ++ (tag ∷ [])
 put_back q tag e h l =

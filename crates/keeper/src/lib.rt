@@ -1,11 +1,12 @@
 // The keeper of the bus: four cores share one chip select, and each has a queue of transfers that wait. Document 02, item 9.
+#![tactic(auto)]
 ghost use Rattle.std.specs.Prelude.{◌≡◌, ◌<◌};
 ghost use Rattle.keeper.specs.Keeper.{queue_sound, keeper_sound, new_keeper, queue_at, with_queue, put_of, front_of, rest_of};
 ghost use Rattle.keeper.specs.Keeper.{number_of, added, add_of, granted, whose_turn, taken_from, grant_of};
 
 // The transfers of one core that wait: `length` tags from place `head` on, round from place 7 to 0. The other places mean nothing.
 #[repr(C)]
-#[derive(Drop)]
+#[derive(Clone, Copy)]
 pub struct Queue {
     pub tags: [u8; 8],
     pub head: u8,
@@ -14,14 +15,14 @@ pub struct Queue {
 
 // A queue for each core, and the core that was granted last.
 #[repr(C)]
-#[derive(Drop)]
+#[derive(Clone, Copy)]
 pub struct Keeper {
     pub queues: [Queue; 4],
     pub last: u8,
 }
 
 // Why a keeper refuses, or that it does not.
-#[derive(Drop)]
+#[derive(Clone, Copy)]
 pub enum Refused {
     Not,
     BadCore,
@@ -31,14 +32,14 @@ pub enum Refused {
 }
 
 // What comes of an adding.
-#[derive(Drop)]
+#[derive(Clone, Copy)]
 pub struct Added {
     pub keeper: Keeper,
     pub refused: Refused,
 }
 
 // What comes of a grant: the core and its transfer; both are 0 where it is refused.
-#[derive(Drop)]
+#[derive(Clone, Copy)]
 pub struct Granted {
     pub keeper: Keeper,
     pub refused: Refused,
@@ -47,7 +48,7 @@ pub struct Granted {
 }
 
 // Whose turn it is.
-#[derive(Drop)]
+#[derive(Clone, Copy)]
 enum Turn {
     Of(u8),
     Nobody,

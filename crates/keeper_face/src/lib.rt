@@ -1,5 +1,6 @@
 // The keeper in C: the functions of include/sleetanvil.h, "four cores at one chip select". A keeper is the same struct outside and inside,
 // and every content of it is answered; refusals are numbers outside.
+#![tactic(auto)]
 ghost use Rattle.std.specs.Prelude.{◌≡◌};
 ghost use Rattle.keeper.specs.Keeper.{new_keeper, add_of, grant_of};
 ghost use Rattle.keeper_face.specs.Face.{face_added, face_granted};
@@ -8,7 +9,7 @@ use keeper::Keeper;
 
 // What comes of an adding.
 #[repr(C)]
-#[derive(Drop)]
+#[derive(Clone, Copy)]
 pub struct CAdded {
     pub keeper: Keeper,
     pub refusal: u8,
@@ -16,7 +17,7 @@ pub struct CAdded {
 
 // What comes of a grant.
 #[repr(C)]
-#[derive(Drop)]
+#[derive(Clone, Copy)]
 pub struct CGranted {
     pub keeper: Keeper,
     pub refusal: u8,

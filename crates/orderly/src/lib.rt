@@ -1,4 +1,5 @@
 // A log run and judged: the suppositions of demand 3, asked of each record as it comes, of the start and of the end.
+#![tactic(auto)]
 ghost use Rattle.std.specs.Prelude.{◌≡◌};
 ghost use Rattle.part.specs.Part.{Sound};
 ghost use Rattle.device.specs.Machine.{machine};
@@ -12,7 +13,7 @@ use part::Geometry;
 use walk::{Answer, Walk, Went};
 
 // A log judged: the answer of its run, and whether the suppositions of demand 3 were met.
-#[derive(Drop)]
+#[derive(Clone, Copy)]
 pub struct Judged {
     pub answer: Answer,
     pub orderly: bool,

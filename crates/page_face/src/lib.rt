@@ -1,4 +1,5 @@
 // The parameter page in C: the functions of include/sleetanvil.h, "the parameter page". Plain numbers outside; every content is answered.
+#![tactic(auto)]
 ghost use Rattle.std.specs.Prelude.{◌≡◌};
 ghost use Rattle.part_numbers.specs.Numbers.{part_of};
 ghost use Rattle.crc.specs.Crc.{crc_of};
@@ -11,7 +12,7 @@ use part_numbers::CGeometry;
 
 // The four numbers of a page, the copy that they are from, and the refusal. (In C the first field is `data`.)
 #[repr(C)]
-#[derive(Drop)]
+#[derive(Clone, Copy)]
 pub struct CSizes {
     pub main: u32,
     pub pages: u32,

@@ -1,6 +1,7 @@
 // A table of calls on the proved maker and reader of parameter pages: each line of the input is a case, and a line is printed for it. The
 // expected lines are printed by the independent model; none is copied from what this program printed. The head of the input says how a line
 // is written.
+#![tactic(auto)]
 ghost use Rattle.std.specs.Prelude.{◌≤◌};
 
 use copies::Found;
@@ -8,7 +9,7 @@ use libc::STDOUT_FILENO;
 use part::{Fm25s005bi3, Geometry};
 
 // What the letters of a line stand for: its name, a comment, or steps.
-#[derive(Drop)]
+#[derive(Clone, Copy)]
 enum Part {
     Name,
     Comment,
@@ -16,7 +17,7 @@ enum Part {
 }
 
 // What the steps of a line go by: the part, and how many bytes are lent.
-#[derive(Drop)]
+#[derive(Clone, Copy)]
 struct Given {
     g: Geometry,
     lent: usize,
@@ -24,7 +25,7 @@ struct Given {
 
 // Where the reading stands: what is given, the part of the line, and the letter whose digits are read, with how many are to come and the
 // number so far.
-#[derive(Drop)]
+#[derive(Clone, Copy)]
 struct Reader {
     given: Given,
     part: Part,

@@ -1,11 +1,13 @@
 // The part: its geometry and when that is sound, the row and the column address, and which blocks are protected.
 // Document 01, "The article" and "Protection".
+#![tactic(auto)]
+
 ghost use Rattle.std.specs.Prelude.{◌≡◌, ◌^◌, ◌<◌, length, replicate};
 ghost use Rattle.part.specs.Part.{page, rows, sound_part, place, block, fm25s005bi3, bench};
 ghost use Rattle.part.specs.Protection.{bp, guarded, picked, complemented, protects};
 
 // The stepping of a part. The second has CMP, the complement bit, in A0h.
-#[derive(Drop)]
+#[derive(Clone, Copy)]
 pub enum Stepping {
     First,
     Second,
@@ -13,7 +15,7 @@ pub enum Stepping {
 
 // D, S, K, N, the two identity bytes and the stepping. Every number of 32 bits can be handed in, so each unsound geometry can be said;
 // D + S and K times N, the sums and products that the soundness rule asks about, never leave 64 bits.
-#[derive(Drop)]
+#[derive(Clone, Copy)]
 pub struct Geometry {
     pub main: u32,
     pub spare: u32,
@@ -25,11 +27,11 @@ pub struct Geometry {
 }
 
 // A row address: which page of the array.
-#[derive(Drop)]
+#[derive(Clone, Copy)]
 pub struct Row(pub u16);
 
 // A column address: which byte of a page.
-#[derive(Drop)]
+#[derive(Clone, Copy)]
 pub struct Column(pub u16);
 
 impl Geometry {
@@ -169,7 +171,7 @@ pub fn fill(memory: &mut [u8], byte: u8)
 }
 
 // The part of the datasheet.
-#[derive(Drop)]
+#[derive(Clone, Copy)]
 pub struct Fm25s005bi3 {}
 
 impl Fm25s005bi3 {
@@ -201,7 +203,7 @@ impl Fm25s005bi3 {
 }
 
 // The small part of the replay program.
-#[derive(Drop)]
+#[derive(Clone, Copy)]
 pub struct Bench {}
 
 impl Bench {

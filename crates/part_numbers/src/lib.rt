@@ -1,4 +1,5 @@
 // A part in the numbers of C: its struct of include/sleetanvil.h, what the numbers stand for, and the lengths that it asks for.
+#![tactic(auto)]
 ghost use Rattle.std.specs.Prelude.{◌≡◌};
 ghost use Rattle.part.specs.Part.{no_part};
 ghost use Rattle.part_numbers.specs.Numbers.{stepping_at, stepping_number, part_of, face_part, cells_length, cache_length, counts_length};
@@ -7,7 +8,7 @@ use part::{Geometry, Stepping};
 
 // The part. (In C its first field is `data`: a name that the proofs' language keeps for itself.)
 #[repr(C)]
-#[derive(Drop)]
+#[derive(Clone, Copy)]
 pub struct CGeometry {
     pub main: u32,
     pub spare: u32,

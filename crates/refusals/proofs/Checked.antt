@@ -35,8 +35,8 @@ passed_sound g m =
     go true true true false e p q r s t h = none h
     go true true true true false p q r s t h = none h
     go true true true true true p q r s t h = (
-      (part.sound-exactly g).0 (true_T (sound_part g) p),
-      sound_made g m ((state.sound-exactly g m.state).0 (true_T (sound_state g m.state) t)) (fits_of g m.store (eqb-true _ _ q) (eqb-true _ _ r)) (eqb-true _ _ s),
+      (part.sound_exactly g).0 (true_T (sound_part g) p),
+      sound_made g m ((state.sound_exactly g m.state).0 (true_T (sound_state g m.state) t)) (fits_of g m.store (eqb-true _ _ q) (eqb-true _ _ r)) (eqb-true _ _ s),
     )
 
 -- the same of what the code has

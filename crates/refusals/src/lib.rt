@@ -1,4 +1,5 @@
 // The numbers of refusal, and the checks that are made once, before any record. Document 01, "Numbers of refusal".
+#![tactic(auto)]
 ghost use Rattle.std.specs.Prelude.{◌≡◌};
 ghost use Rattle.refusals.specs.Refusals.{refusal_of, check_of, passed, number_of};
 
@@ -7,7 +8,7 @@ use device::State;
 use part::Geometry;
 
 // The refusals, 0 to 9.
-#[derive(Drop)]
+#[derive(Clone, Copy)]
 pub enum Refusal {
     Done,
     BadPart,

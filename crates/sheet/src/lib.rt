@@ -1,4 +1,5 @@
 // The parameter page of a part, and its maker. Document 02, item 1; the datasheet's section 10.
+#![tactic(auto)]
 ghost use Rattle.std.specs.Prelude.{◌≡◌, length};
 ghost use Rattle.sheet.specs.Numbers.{low_first};
 ghost use Rattle.sheet.specs.Sheet.{sheet_of, unnumbered};
@@ -7,7 +8,7 @@ ghost use Rattle.sheet.specs.Page.{page_of, made_number, made_end, make_of};
 use part::Geometry;
 
 // What comes of making a page.
-#[derive(Drop)]
+#[derive(Clone, Copy)]
 pub enum Made {
     Laid,
     BadPart,

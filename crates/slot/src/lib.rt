@@ -1,4 +1,5 @@
 // The card slot: a card log run on a card, every input answered. Document 02, item 5.
+#![tactic(auto)]
 ghost use Rattle.std.specs.Prelude.{◌≡◌, ◌+◌, ◌≤◌, length};
 ghost use Rattle.buslog.specs.Write.{over};
 ghost use Rattle.cardlog.specs.Log.{bytes_of};
@@ -12,7 +13,7 @@ use card::Stage;
 use cardlog::{Next, Record, Why};
 
 // The answers of a run: document 02's numbers 0, 17, 18, 6, 7 and 9.
-#[derive(Drop)]
+#[derive(Clone, Copy)]
 pub enum Refusal {
     Done,
     BadCells,
@@ -23,7 +24,7 @@ pub enum Refusal {
 }
 
 // Where a run stands: the stage, the place in the log, the records done, the output bytes written.
-#[derive(Drop)]
+#[derive(Clone, Copy)]
 pub struct Walk {
     pub stage: Stage,
     pub at: usize,
@@ -32,14 +33,14 @@ pub struct Walk {
 }
 
 // What a turn comes to: on behind the record, or off with a refusal and nothing done.
-#[derive(Drop)]
+#[derive(Clone, Copy)]
 pub enum Went {
     On(Walk),
     Off(Refusal),
 }
 
 // The answer to a run: the refusal, the stage, and how far it went.
-#[derive(Drop)]
+#[derive(Clone, Copy)]
 pub struct Answer {
     pub refusal: Refusal,
     pub stage: Stage,

@@ -1,5 +1,6 @@
 // A stream of shifts: once the fifth byte of a transfer has come, only the next column moves on, and data is read or loaded. Document 01,
 // "Instructions".
+#![tactic(auto)]
 ghost use Rattle.std.specs.Prelude.{true, ◌≡◌, ◌/◌, ◌≤◌, ◌<◌, min, length};
 ghost use Rattle.columns.specs.Columns.{next_read};
 ghost use Rattle.transfer.specs.Transfer.{is};
@@ -11,7 +12,7 @@ use part::{Column, Geometry};
 use transfer::{Bus, Transfer};
 
 // What a stream of shifts came to: the state, and how many there were.
-#[derive(Drop)]
+#[derive(Clone, Copy)]
 pub struct Stream {
     pub state: State,
     pub count: usize,

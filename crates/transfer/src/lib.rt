@@ -1,4 +1,5 @@
 // A transfer on the bus: chip select, the bytes shifted in, and what they do to the cache register. Document 01, "Instructions".
+#![tactic(auto)]
 ghost use Rattle.std.specs.Prelude.{◌≡◌};
 ghost use Rattle.transfer.specs.Transfer.{is, full, fresh, selects, ends, row_of, column_bytes, column_on, column_after, instructed, later, heard, shifted_in, body_heard, stored, cached};
 
@@ -8,7 +9,7 @@ use registers::Pins;
 
 // A transfer, from select to deselect: the count of its bytes (5 stands for more), the instruction, the three bytes after
 // it as they came, and the next column.
-#[derive(Drop)]
+#[derive(Clone, Copy)]
 pub struct Transfer {
     pub selected: bool,
     pub count: u8,
@@ -20,7 +21,7 @@ pub struct Transfer {
 }
 
 // What the bus changes and the array never reads.
-#[derive(Drop)]
+#[derive(Clone, Copy)]
 pub struct Bus {
     pub pins: Pins,
     pub transfer: Transfer,

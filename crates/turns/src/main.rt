@@ -1,10 +1,11 @@
 // A table of calls on the proved keeper: each line of the input is a case, and a line is printed for it. The expected lines were worked
 // out by hand; none is copied from what this program printed. The head of the input says how a line is written.
+#![tactic(auto)]
 use keeper::{Keeper, Queue};
 use libc::STDOUT_FILENO;
 
 // What the letters of a line stand for: its name, a comment, or calls.
-#[derive(Drop)]
+#[derive(Clone, Copy)]
 enum Part {
     Name,
     Comment,
@@ -13,7 +14,7 @@ enum Part {
 
 // Where the reading stands: the keeper, the part of the line, and the letter whose digits are read, with how many are to come and the
 // number so far.
-#[derive(Drop)]
+#[derive(Clone, Copy)]
 struct Reader {
     keeper: Keeper,
     part: Part,

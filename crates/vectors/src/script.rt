@@ -4,7 +4,7 @@
 const ROOM: usize = 2048;
 
 // How far the log is written, a first digit that waits for its second, and whether a pair is a shift.
-#[derive(Drop)]
+#[derive(Clone, Copy)]
 struct Pen {
     at: usize,
     half: bool,

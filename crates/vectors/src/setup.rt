@@ -7,7 +7,7 @@ use registers::{Pins, Registers};
 use transfer::{Bus, Transfer};
 
 // The numbers of a setup, each at its place below, and the place of the one that is being read.
-#[derive(Drop)]
+#[derive(Clone, Copy)]
 pub(crate) struct Setup {
     numbers: [u32; 29],
     at: usize,

@@ -7,7 +7,7 @@ use walk::Answer;
 
 // The bytes that differ from what they were filled with: how many, the first and the last place, and the sum, which starts
 // at 0 and with each of them, in order, becomes 31 times itself and 256 times the place and the byte, modulo 2^32.
-#[derive(Drop)]
+#[derive(Clone, Copy)]
 struct Tally {
     count: u32,
     first: usize,

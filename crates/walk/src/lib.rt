@@ -1,4 +1,5 @@
 // A run, record by record: where it stands, and one turn of it. Document 01, "Numbers of refusal", 6 to 9 at each record.
+#![tactic(auto)]
 ghost use Rattle.std.specs.Prelude.{◌≡◌, ◌+◌, ◌≤◌, length};
 ghost use Rattle.part.specs.Part.{Sound};
 ghost use Rattle.buslog.specs.Read.{next_of};
@@ -16,7 +17,7 @@ use refusals::Refusal;
 use registers::Pins;
 
 // Where a run stands: the state, the place in the log, the records done, the output bytes written.
-#[derive(Drop)]
+#[derive(Clone, Copy)]
 pub struct Walk {
     pub state: State,
     pub at: usize,
@@ -25,14 +26,14 @@ pub struct Walk {
 }
 
 // What a turn comes to: on behind the record, or off with a refusal and nothing done.
-#[derive(Drop)]
+#[derive(Clone, Copy)]
 pub enum Went {
     On(Walk),
     Off(Refusal),
 }
 
 // The answer to a run: the refusal, the state, and how far it went.
-#[derive(Drop)]
+#[derive(Clone, Copy)]
 pub struct Answer {
     pub refusal: Refusal,
     pub state: State,

@@ -1,0 +1,12 @@
+-- `erase_units`: at unit i, going on ends where going from the first unit ends. The measure is the units left.
+use Prim.Native.Nat.{◌-◌}
+use native.Mathlib.Omega.{arith}
+use borrow.Author.Rules.{rules}
+use Rattle.array.proofs.Loop.{Running, begun, moved, ended}
+use Rattle.array.proofs.erase_units.Goals as goal
+
+pub loop-i-preserved : goal.loop-i-preserved
+loop-i-preserved c = moved c.loop-i.invariant c.loop-i-test.true c.erase_unit.ensures
+
+pub returns : goal.returns
+returns c = ended c.loop-i.invariant c.loop-i-test.false

@@ -1,0 +1,14 @@
+-- `mend`: where no bit is marked, nothing is to do.
+use mathlib.Core.Path.{sym, ◌∙◌}
+use lib.ListN.{get_or}
+use borrow.Author.Tests.{eqb-true}
+use Rattle.ecc.proofs.Unmarked.{zeros_unmarked, zeros_mended}
+use borrow.Author.Rules.{rules}
+use Rattle.ecc.proofs.mend_all.Reads as mend-all-reads
+use Rattle.stretches.proofs.all_zero.Reads as all-zero-reads
+use Rattle.ecc.proofs.mend.Goals as goal
+
+pub returns-then-all_zero : goal.returns-then-all_zero
+returns-then-all_zero c =
+    let a = c.args in
+    zeros_mended a.g (λ j. get_or a.marks.now j 0) a.cache.now (zeros_unmarked a.marks.now (eqb-true _ _ (sym c.all_zero.ensures ∙ c.if-all_zero.true)))

@@ -1,0 +1,15 @@
+-- From each core on the queues are as sound as from core 0 on. The measure is the cores left.
+use mathlib.Core.Path.{◌≡◌, refl, sym, ◌∙◌}
+use Prim.Native.Nat.{◌+◌, ◌≤◌, ◌-◌}
+use native.Mathlib.Omega.{arith}
+use borrow.Author.Rules.{rules}
+use borrow.Author.Tests.{lt-ltb, le-ltb, not-true, not-false}
+use Rattle.keeper.specs.Keeper.{keeper_sound, sound_from}
+use Rattle.keeper.proofs.Searches.{sound_bad, sound_on, sound_end}
+use Rattle.keeper.proofs.Keeper.sound.Given as goal
+
+abbrev pub invariant-loop-c : goal.invariant-loop-c
+invariant-loop-c l = (l.c ≤ 4) × (sound_from l.self l.c (4 - l.c) ≡ sound_from l.self 0 4)
+
+abbrev pub decreases-loop-c : goal.decreases-loop-c
+decreases-loop-c l = 4 - l.c

@@ -1,0 +1,13 @@
+-- The test d < 10 is the definition's own.
+use borrow.Author.Tests.{lt-ltb, le-ltb}
+use Rattle.lines.specs.Lines.{hex_digit}
+use borrow.Author.Rules.{rules}
+use Rattle.lines.proofs.hex_digit.Goals as goal
+
+pub returns-then-d-lt10 : goal.returns-then-d-lt10
+unfolding hex_digit
+returns-then-d-lt10 c = rw (lt-ltb _ _ c.if-d-lt10.true)
+
+pub returns : goal.returns
+unfolding hex_digit
+returns c = rw (le-ltb _ _ c.if-d-lt10.false)

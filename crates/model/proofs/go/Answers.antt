@@ -1,0 +1,20 @@
+-- The loop over the log: each turn keeps `Going`, and the way out is the end of the whole run.
+use mathlib.Core.Path.{sym, ◌∙◌}
+use Prim.Native.Nat.{◌-◌}
+use native.Mathlib.Omega.{arith}
+use borrow.Author.Rules.{rules}
+use lib.ListN.{length}
+use Rattle.device.specs.Machine.{machine}
+use Rattle.device.specs.Work.{unitwise}
+use Rattle.kept.proofs.Steps.{step_keeps}
+use Rattle.model.proofs.Loop.{Going, going_start, out_long, stands, going_on, going_off}
+use Rattle.model.proofs.go.Goals as goal
+
+pub loop-next-smaller : goal.loop-next-smaller
+loop-next-smaller c = let h = going_on _ _ _ _ _ (step_keeps _ c.requires.0) (λ i. omega (arith, c.shared_slice_known-1.given i)) _ _ _ c.loop-next.invariant _ _ _ _ _ c.onward.ensures _ c.in-On.is in omega (arith, h.0, h.1.inside)
+
+pub loop-next-preserved : goal.loop-next-preserved
+loop-next-preserved c = (going_on _ _ _ _ _ (step_keeps _ c.requires.0) (λ i. omega (arith, c.shared_slice_known-1.given i)) _ _ _ c.loop-next.invariant _ _ _ _ _ c.onward.ensures _ c.in-On.is).1
+
+pub returns-in-Off : goal.returns-in-Off
+returns-in-Off c = rw c.so_far.ensures (rw c.start-w.ensures at (going_off _ _ _ _ _ (step_keeps _ c.requires.0) (λ i. omega (arith, c.shared_slice_known-1.given i)) _ _ _ c.loop-next.invariant _ _ _ _ _ c.onward.ensures _ c.in-Off.is))

@@ -1,0 +1,15 @@
+-- `ones_in`: at byte i, going on counts what going from the first byte counts; 8 for a byte at most. The measure is the bytes left.
+use mathlib.Core.Path.{refl}
+use Prim.Native.Nat.{ℕ, ◌+◌, ◌-◌, ◌*◌, ◌≤◌, ◌<◌}
+use native.Mathlib.Omega.{arith}
+use lib.Count.{ones, ones-le}
+use lib.ListN.{get_or}
+use borrow.Author.Rules.{rules}
+use Rattle.stretches.proofs.Loop.{Taking, taking, taken, took}
+use Rattle.stretches.proofs.ones_in.Given as goal
+
+abbrev pub invariant-loop-i : goal.invariant-loop-i
+invariant-loop-i l = Taking (λ j n. n + ones (get_or l.bytes j 0)) l.from l.to 0 l.sum l.i × (l.sum ≤ 8 * l.i)
+
+abbrev pub decreases-loop-i : goal.decreases-loop-i
+decreases-loop-i l = l.to - l.i
