@@ -4,8 +4,10 @@
 ghost use Rattle.std.specs.Prelude.{◌≤◌};
 
 use card::Stage;
-use libc::STDOUT_FILENO;
 use slot::Answer;
+
+// The standard output.
+const STDOUT_FILENO: i32 = 1;
 
 // What the letters of a line stand for: its name, a comment, or steps.
 #[derive(Clone, Copy)]

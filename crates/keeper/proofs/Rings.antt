@@ -38,18 +38,18 @@ front_leaves q l = split q.length q.tags q.head l
 apart : (p n : ℕ) → p < 8 → 0 < n → n < 8 → p ≡ (p + n) % 8 → ⊥
 apart p n a b c e = omega arith
 
--- a tag put behind n tags
-put_behind : (n : ℕ) (tags : List ℕ) (place tag : ℕ) → length tags ≡ 8 → place < 8 → n < 8 → tags_from (set tags ((place + n) % 8) tag) place (suc n) ≡ tags_from tags place n ++ (tag ∷ [])
+-- a tag put behind n tags, at the place w
+put_behind : (n : ℕ) (tags : List ℕ) (place tag w : ℕ) → w ≡ (place + n) % 8 → length tags ≡ 8 → place < 8 → n < 8 → tags_from (set tags w tag) place (suc n) ≡ tags_from tags place n ++ (tag ∷ [])
 unfolding tags_from
-put_behind zero tags place tag e l m =
-    let p : (place + 0) % 8 ≡ place = omega arith in
+put_behind zero tags place tag w q e l m =
+    let p : w ≡ place = omega arith in
     rw (p, get_or-set_same tags place tag 0 (omega arith))
-put_behind (suc n) tags place tag e l m =
-    let p : (place + suc n) % 8 ≡ ((place + 1) % 8 + n) % 8 = omega arith in
-    let d : get_or (set tags ((place + suc n) % 8) tag) place 0 ≡ get_or tags place 0 = get_or-set_other tags ((place + suc n) % 8) place tag 0 (apart place (suc n) l (omega arith) m) in
-    rw (d, p) (ap (λ (x : List ℕ). get_or tags place 0 ∷ x) (put_behind n tags ((place + 1) % 8) tag e (omega arith) (omega arith)))
+put_behind (suc n) tags place tag w q e l m =
+    let p : w ≡ ((place + 1) % 8 + n) % 8 = omega arith in
+    let d : get_or (set tags w tag) place 0 ≡ get_or tags place 0 = get_or-set_other tags w place tag 0 (λ (x : place ≡ w). apart place (suc n) l (omega arith) m (x ∙ q)) in
+    rw d (ap (λ (x : List ℕ). get_or tags place 0 ∷ x) (put_behind n tags ((place + 1) % 8) tag w p e (omega arith) (omega arith)))
 
 pub put_back : (q : Queue) (tag : ℕ) → length q.tags ≡ 8 → q.head < 8 → q.length < 8 → waiting_in (put_of q tag) ≡ waiting_in q ++ (tag ∷ [])
 put_back q tag e h l =
     let s : q.length + 1 ≡ suc q.length = omega arith in
-    rw s (put_behind q.length q.tags q.head tag e h l)
+    rw s (put_behind q.length q.tags q.head tag ((q.head + q.length) % 8) refl e h l)

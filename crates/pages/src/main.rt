@@ -5,8 +5,10 @@
 ghost use Rattle.std.specs.Prelude.{◌≤◌};
 
 use copies::Found;
-use libc::STDOUT_FILENO;
 use part::{Fm25s005bi3, Geometry};
+
+// The standard output.
+const STDOUT_FILENO: i32 = 1;
 
 // What the letters of a line stand for: its name, a comment, or steps.
 #[derive(Clone, Copy)]

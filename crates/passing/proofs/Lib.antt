@@ -6,5 +6,5 @@ pub mod Protected
 pub mod Counter
 pub mod Passes
 pub mod Tries
-pub mod Hidden
+pub mod CodeHidden
 pub mod Holds

@@ -24,15 +24,15 @@ cancel (x ∷ xs) ys zs e = cancel xs ys zs (cc)
 -- ---- the refusals: both are sound, so what one is refused for holds of the other
 
 add_line : (k j : Keeper) → SoundKeeper k → SoundKeeper j → Alike k j → (core n : ℕ) → AddLine k core n → AddLine j core n
-add_line k j s z a core n (AddLine.keeper-not-sound f) = absurd (f s)
-add_line k j s z a core n (AddLine.core-above-3 _ h) = AddLine.core-above-3 z h
-add_line k j s z a core n (AddLine.eight-wait _ h e) = AddLine.eight-wait z h (rw (← a.waits core (omega arith)) e)
+add_line k j s z a core n (AddLine.keeper_not_sound f) = absurd (f s)
+add_line k j s z a core n (AddLine.core_above_3 _ h) = AddLine.core_above_3 z h
+add_line k j s z a core n (AddLine.eight_wait _ h e) = AddLine.eight_wait z h (rw (← a.waits core (omega arith)) e)
 add_line k j s z a core n (AddLine.has_room _ h e) = AddLine.has_room z h (rw (← a.waits core (omega arith)) e)
 
 grant_line : (k j : Keeper) → SoundKeeper k → SoundKeeper j → Alike k j → (n : ℕ) → GrantLine k n → GrantLine j n
-grant_line k j s z a n (GrantLine.keeper-not-sound f) = absurd (f s)
-grant_line k j s z a n (GrantLine.all-empty _ f) = GrantLine.all-empty z (λ core h. rw (← a.waits core (omega arith)) (f core h))
-grant_line k j s z a n (GrantLine.one-waits _ core h f) = GrantLine.one-waits z core h (rw (← a.waits core (omega arith)) f)
+grant_line k j s z a n (GrantLine.keeper_not_sound f) = absurd (f s)
+grant_line k j s z a n (GrantLine.all_empty _ f) = GrantLine.all_empty z (λ core h. rw (← a.waits core (omega arith)) (f core h))
+grant_line k j s z a n (GrantLine.one_waits _ core h f) = GrantLine.one_waits z core h (rw (← a.waits core (omega arith)) f)
 
 -- ---- the grants
 

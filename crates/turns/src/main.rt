@@ -2,7 +2,9 @@
 // out by hand; none is copied from what this program printed. The head of the input says how a line is written.
 #![tactic(auto)]
 use keeper::{Keeper, Queue};
-use libc::STDOUT_FILENO;
+
+// The standard output.
+const STDOUT_FILENO: i32 = 1;
 
 // What the letters of a line stand for: its name, a comment, or calls.
 #[derive(Clone, Copy)]

@@ -1,9 +1,11 @@
 // The line of a vector: what the run answered and what the lent memory then holds.
 use array::{Job, Work};
 use device::State;
-use libc::STDOUT_FILENO;
 use transfer::Bus;
 use walk::Answer;
+
+// The standard output.
+const STDOUT_FILENO: i32 = 1;
 
 // The bytes that differ from what they were filled with: how many, the first and the last place, and the sum, which starts
 // at 0 and with each of them, in order, becomes 31 times itself and 256 times the place and the byte, modulo 2^32.

@@ -9,11 +9,11 @@ returns-in-WriteWithBit c = let w = c.write_with_bit.ensures in rw (c.in-WriteWi
 
 pub returns-in-Write : goal.returns-in-Write
 unfolding commanded
-returns-in-Write c = rw (?After-anew2.before.before.before.before.before.before.enum-told2.given.1?, c.write.ensures.1, c.anew-in-Write.ensures)
+returns-in-Write c = rw (c.in-Write.is, c.write.ensures.1, c.anew-in-Write.ensures)
 
 pub returns-in-Protect : goal.returns-in-Protect
 unfolding commanded
-returns-in-Protect c = rw (?After-anew3.before.before.before.before.before.before.enum-told3.given.1?, c.protect.ensures, c.anew-in-Protect.ensures)
+returns-in-Protect c = rw (c.in-Protect.is, c.protect.ensures, c.anew-in-Protect.ensures)
 
 pub returns-in-ReadWithBit : goal.returns-in-ReadWithBit
 unfolding commanded
@@ -25,7 +25,7 @@ returns-in-Read c = rw (c.in-Read.is, c.anew-in-Read.ensures)
 
 pub returns-in-Count : goal.returns-in-Count
 unfolding commanded
-returns-in-Count c = let w = c.count-cleared.ensures in rw (?After-counted.before.before.before.before.before.before.enum-told6.given.1?, c.counted.ensures, w.0, w.1)
+returns-in-Count c = let w = c.count-cleared.ensures in rw (c.in-Count.is, c.counted.ensures, w.0, w.1)
 
 pub returns-in-Compare : goal.returns-in-Compare
 unfolding commanded

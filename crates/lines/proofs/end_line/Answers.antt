@@ -28,4 +28,4 @@ pub returns : goal.returns
 returns c =
     let a = c.args in
     let e : c.places_of.result ≡ places c.args.refusal = c.places_of.ensures ∙ ap places c.wide-r.ensures in
-    end_laid a.out.now _ _ _ c.places_of.result c.places_of-2.result a.refusal a.records e c.places_of-2.ensures c.if-out-n.false ?After-slice_known4.before.before.before.before.before.before.before.before.before.before.Store-word.ensures? (rw c.wide-r.ensures at c.store_number.ensures) c.store_number-2.ensures
+    end_laid a.out.now _ _ _ c.places_of.result c.places_of-2.result a.refusal a.records e c.places_of-2.ensures c.if-out-n.false c.store_word.ensures (rw c.wide-r.ensures at c.store_number.ensures) c.store_number-2.ensures

@@ -12,4 +12,4 @@ use Rattle.part_numbers.proofs.cells_length.Goals as goal
 pub overflow_mul-result : goal.overflow_mul-result
 overflow_mul-result c =
     let s : Sound c.part_of-g.result = (sound_exactly c.part_of-g.result).0 (true_T _ (sym c.sound.ensures ∙ not-false c.sound.result c.if-not-sound.false-raw)) in
-    rw (c.rows.ensures, c.page.ensures) (omega (arith, mul-le-mul s.few-rows s.small-page))
+    rw (c.rows.ensures, c.page.ensures) (omega (arith, mul-le-mul s.few_rows s.small_page))

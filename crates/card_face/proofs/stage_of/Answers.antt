@@ -1,0 +1,20 @@
+-- The stage of a number.
+use borrow.Author.Tests.{ne_eqb}
+use Rattle.card_face.specs.Face.{stage_of}
+use Rattle.card_face.proofs.stage_of.Goals as goal
+
+pub returns-in-0 : goal.returns-in-0
+unfolding stage_of
+returns-in-0 c = rw c.in-0.is
+
+pub returns-in-1 : goal.returns-in-1
+unfolding stage_of
+returns-in-1 c = rw c.in-1.is
+
+pub returns-in-2 : goal.returns-in-2
+unfolding stage_of
+returns-in-2 c = rw c.in-2.is
+
+pub returns-in_default : goal.returns-in_default
+unfolding stage_of
+returns-in_default c = simp (ne_eqb _ _ c.in_default.in_default-own.rest.0.0.1, ne_eqb _ _ c.in_default.in_default-own.rest.0.1, ne_eqb _ _ c.in_default.in_default-own.rest.1)

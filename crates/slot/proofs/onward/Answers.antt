@@ -1,0 +1,15 @@
+-- One turn: no record, or one whose answer has no room, or the record done.
+use mathlib.Core.Path.{sym, ◌∙◌}
+use native.Mathlib.Omega.{arith}
+use borrow.Author.Rules.{rules}
+use Rattle.slot.proofs.Turns.{further, turn_stops, turn_full, turn_goes}
+use Rattle.slot.proofs.onward.Goals as goal
+
+pub returns-then-out-w : goal.returns-then-out-w
+returns-then-out-w c = turn_full _ _ _ _ _ _ (sym c.next_at.ensures ∙ c.in-Found.is) (omega (arith, c.if-out-w.true, c.room_of-room.ensures))
+
+pub returns-in-Stop : goal.returns-in-Stop
+returns-in-Stop c = turn_stops _ _ _ _ _ _ (sym c.next_at.ensures ∙ c.in-Stop.is) c.refusal_of.ensures
+
+pub returns-else-out-w : goal.returns-else-out-w
+returns-else-out-w c = turn_goes _ _ _ _ _ _ _ _ _ (sym c.next_at.ensures ∙ c.in-Found.is) c.room_of-room.ensures (omega (arith, c.if-out-w.false)) c.turn-t.ensures.0 c.turn-t.ensures.1

@@ -1,0 +1,20 @@
+-- `reads_round`: after k shifts they are done, the column moved on, and still in the page. The measure is the shifts left.
+use Prim.Native.Nat.{ℕ, ◌-◌, ◌≤◌, ◌<◌}
+use mathlib.Core.List.{List}
+use mathlib.Core.Path.{◌≡◌, refl, sym}
+use native.Mathlib.Omega.{arith}
+use lib.ListN.{length}
+use borrow.Author.Rules.{rules}
+use Rattle.part.specs.Part.{page}
+use Rattle.part.specs.declared.Geometry.{Geometry}
+use Rattle.stream.proofs.Shifting.{Streaming, before_first, moved, round_moves, next_inside, none_left, no_shift_lem}
+use Rattle.stream.proofs.reads_round.Given as goal
+
+abbrev pub On : List ℕ → Geometry → Type 0
+On cache g = page g ≡ length cache
+
+abbrev pub invariant-loop-k : goal.invariant-loop-k
+invariant-loop-k l = Streaming (On l.cache) l.s l.log l.at l.written l.n l.cache l.initial.out l.cache l.out l.c l.k × (l.c.0 < length l.cache) × (length l.cache ≤ 4096)
+
+abbrev pub decreases-loop-k : goal.decreases-loop-k
+decreases-loop-k l = l.n - l.k
