@@ -19,80 +19,70 @@ use part_numbers::CGeometry;
 use record_numbers::{CFound, CRecord, CWrote};
 
 // The version of the header that this library goes with.
-#[unsafe(no_mangle)]
-pub extern "C" fn sleet_version() -> u32
+pub fn sleet_version() -> u32
     ensures { result ≡ version }
 {
     3
 }
 
 // The part of the datasheet.
-#[unsafe(no_mangle)]
-pub extern "C" fn sleet_fm25s005bi3() -> CGeometry
+pub fn sleet_fm25s005bi3() -> CGeometry
     ensures { result ≡ face_part fm25s005bi3 }
 {
     part_numbers::face_part(Fm25s005bi3::geometry())
 }
 
 // The bench part.
-#[unsafe(no_mangle)]
-pub extern "C" fn sleet_bench() -> CGeometry
+pub fn sleet_bench() -> CGeometry
     ensures { result ≡ face_part bench }
 {
     part_numbers::face_part(Bench::geometry())
 }
 
 // Whether a geometry is sound.
-#[unsafe(no_mangle)]
-pub extern "C" fn sleet_geometry_sound(part: CGeometry) -> bool
+pub fn sleet_geometry_sound(part: CGeometry) -> bool
     ensures { result ≡ sound_part (part_of part) }
 {
     part_numbers::part_of(part).sound()
 }
 
 // The length that cells must have.
-#[unsafe(no_mangle)]
-pub extern "C" fn sleet_cells_length(part: CGeometry) -> usize
+pub fn sleet_cells_length(part: CGeometry) -> usize
     ensures { result ≡ cells_length (part_of part) }
 {
     part_numbers::cells_length(part)
 }
 
 // The length that the cache register must have.
-#[unsafe(no_mangle)]
-pub extern "C" fn sleet_cache_length(part: CGeometry) -> usize
+pub fn sleet_cache_length(part: CGeometry) -> usize
     ensures { result ≡ cache_length (part_of part) }
 {
     part_numbers::cache_length(part)
 }
 
 // The length that page counts must have.
-#[unsafe(no_mangle)]
-pub extern "C" fn sleet_counts_length(part: CGeometry) -> usize
+pub fn sleet_counts_length(part: CGeometry) -> usize
     ensures { result ≡ counts_length (part_of part) }
 {
     part_numbers::counts_length(part)
 }
 
 // The power-up state.
-#[unsafe(no_mangle)]
-pub extern "C" fn sleet_power_up() -> CState
+pub fn sleet_power_up() -> CState
     ensures { result ≡ face_of power_up }
 {
     face::face_of(State::power_up())
 }
 
 // Whether a state is sound on a part.
-#[unsafe(no_mangle)]
-pub extern "C" fn sleet_state_sound(part: CGeometry, state: CState) -> bool
+pub fn sleet_state_sound(part: CGeometry, state: CState) -> bool
     ensures { result ≡ sound_told (part_of part) (state_of state) }
 {
     face::state_sound(part, state)
 }
 
 // How many units an operation has on a part.
-#[unsafe(no_mangle)]
-pub extern "C" fn sleet_operation_length(part: CGeometry, job: u8) -> usize
+pub fn sleet_operation_length(part: CGeometry, job: u8) -> usize
     ensures { result ≡ length_at (part_of part) job }
 {
     let g = part_numbers::part_of(part);
@@ -106,8 +96,7 @@ pub extern "C" fn sleet_operation_length(part: CGeometry, job: u8) -> usize
 }
 
 // How many units the operation in progress has left.
-#[unsafe(no_mangle)]
-pub extern "C" fn sleet_units_left(part: CGeometry, state: CState) -> usize
+pub fn sleet_units_left(part: CGeometry, state: CState) -> usize
     ensures { result ≡ left_told (part_of part) (state_of state) }
 {
     let g = part_numbers::part_of(part);
@@ -129,8 +118,7 @@ fn peek_of(p: Peeked) -> CPeek
 }
 
 // The byte that the next shift will put out.
-#[unsafe(no_mangle)]
-pub extern "C" fn sleet_peek(part: CGeometry, state: CState, cache: &[u8]) -> CPeek
+pub fn sleet_peek(part: CGeometry, state: CState, cache: &[u8]) -> CPeek
     ensures { result ≡ peeked_of part state cache.now }
 {
     let x = face::state_of(state);
@@ -139,8 +127,7 @@ pub extern "C" fn sleet_peek(part: CGeometry, state: CState, cache: &[u8]) -> CP
 }
 
 // The memory of a device that was never used.
-#[unsafe(no_mangle)]
-pub extern "C" fn sleet_blank(
+pub fn sleet_blank(
     part: CGeometry,
     cells: &mut [u8],
     cache: &mut [u8],
@@ -154,24 +141,21 @@ pub extern "C" fn sleet_blank(
 }
 
 // The record at a place of a log.
-#[unsafe(no_mangle)]
-pub extern "C" fn sleet_next(log: &[u8], place: usize) -> CFound
+pub fn sleet_next(log: &[u8], place: usize) -> CFound
     ensures { result ≡ found_of log.now place }
 {
     record_numbers::found_at(log, place)
 }
 
 // One record written at a place of a log.
-#[unsafe(no_mangle)]
-pub extern "C" fn sleet_write(entry: CRecord, log: &mut [u8], place: usize) -> CWrote
+pub fn sleet_write(entry: CRecord, log: &mut [u8], place: usize) -> CWrote
     ensures { face_put result log.new ≡ written_of entry log.old place }
 {
     record_numbers::write_entry(entry, log, place)
 }
 
 // What a number of refusal means.
-#[unsafe(no_mangle)]
-pub extern "C" fn sleet_text(refusal: u8, out: &mut [u8]) -> usize
+pub fn sleet_text(refusal: u8, out: &mut [u8]) -> usize
     ensures { face_laid result out.new ≡ text_laid (text_of refusal) out.old }
 {
     texts::lay_text(refusal, out)

@@ -102,16 +102,14 @@ fn nothing(card: CCard, refusal: u8) -> CCardAnswer
 }
 
 // A card to which power has just come.
-#[unsafe(no_mangle)]
-pub extern "C" fn sleet_card_power_up() -> CCard
+pub fn sleet_card_power_up() -> CCard
     ensures { result ≡ face_card Fresh }
 {
     card_at(Stage::Fresh)
 }
 
 // A card log run on a card.
-#[unsafe(no_mangle)]
-pub extern "C" fn sleet_card_run(
+pub fn sleet_card_run(
     card: CCard,
     log: &[u8],
     cells: &mut [u8],
@@ -128,8 +126,7 @@ pub extern "C" fn sleet_card_run(
 }
 
 // One command: the same as a run of the record's bytes.
-#[unsafe(no_mangle)]
-pub extern "C" fn sleet_card_command(
+pub fn sleet_card_command(
     card: CCard,
     first: u8,
     second: u8,

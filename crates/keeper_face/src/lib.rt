@@ -26,16 +26,14 @@ pub struct CGranted {
 }
 
 // A new keeper.
-#[unsafe(no_mangle)]
-pub extern "C" fn sleet_keeper_new() -> Keeper
+pub fn sleet_keeper_new() -> Keeper
     ensures { result ≡ new_keeper }
 {
     Keeper::new()
 }
 
 // A transfer to the back of a core's queue.
-#[unsafe(no_mangle)]
-pub extern "C" fn sleet_keeper_add(keeper: Keeper, core: u8, tag: u8) -> CAdded
+pub fn sleet_keeper_add(keeper: Keeper, core: u8, tag: u8) -> CAdded
     ensures { result ≡ face_added (add_of keeper core tag) }
 {
     let a = keeper.add(core, tag);
@@ -48,8 +46,7 @@ pub extern "C" fn sleet_keeper_add(keeper: Keeper, core: u8, tag: u8) -> CAdded
 }
 
 // The transfer that is next.
-#[unsafe(no_mangle)]
-pub extern "C" fn sleet_keeper_grant(keeper: Keeper) -> CGranted
+pub fn sleet_keeper_grant(keeper: Keeper) -> CGranted
     ensures { result ≡ face_granted (grant_of keeper) }
 {
     let g = keeper.grant();

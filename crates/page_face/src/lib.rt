@@ -55,8 +55,7 @@ fn sizes_of(found: Found) -> CSizes
 }
 
 // A part's page at the front of lent memory.
-#[unsafe(no_mangle)]
-pub extern "C" fn sleet_page_make(part: CGeometry, memory: &mut [u8]) -> u8
+pub fn sleet_page_make(part: CGeometry, memory: &mut [u8]) -> u8
     ensures { face_made result memory.new ≡ numbered (make_of (part_of part) memory.old) }
 {
     let g = part_numbers::part_of(part);
@@ -65,16 +64,14 @@ pub extern "C" fn sleet_page_make(part: CGeometry, memory: &mut [u8]) -> u8
 }
 
 // The first of the three copies that holds.
-#[unsafe(no_mangle)]
-pub extern "C" fn sleet_page_read(memory: &[u8]) -> CSizes
+pub fn sleet_page_read(memory: &[u8]) -> CSizes
     ensures { result ≡ face_sizes (figures (read_of memory.now)) }
 {
     sizes_of(copies::read(memory))
 }
 
 // The check of a stretch of bytes.
-#[unsafe(no_mangle)]
-pub extern "C" fn sleet_page_check(bytes: &[u8]) -> u16
+pub fn sleet_page_check(bytes: &[u8]) -> u16
     ensures { result ≡ crc_of bytes.now }
 {
     crc::check_of(bytes)

@@ -66,7 +66,7 @@ module _ (g : Geometry) (arr : Array) (log out₀ : List ℕ) (m₀ : Machine) (
       (going_next g arr log out₀ m₀ v out m h keeps e (w.at + 2 * k + 2) p (byte_found log (w.at + 2 * k) bytes e (w.at + 2 * k + 2) p)
       (omega (arith, out_long g arr log out₀ m₀ v out m h)))
 
-  going_shifts : {k : ℕ} {m₁ m : Machine} {out₁ out : List ℕ} → w.state ≡ m₁.state → Going g arr log out₀ m₀ w out₁ m₁ → Shifted g log w.at w.written m₁ out₁ k m out
+  going_shifts : {m₁ : Machine} {out₁ : List ℕ} {k : ℕ} {m : Machine} {out : List ℕ} → w.state ≡ m₁.state → Going g arr log out₀ m₀ w out₁ m₁ → Shifted g log w.at w.written m₁ out₁ k m out
       → Going g arr log out₀ m₀ (shifts_on w m.state k) out m
   going_shifts e h none = going_at (rw (add-zero w.at, add-zero w.records, add-zero w.written, e)) refl h
   going_shifts e h (more {k} {m} {out} d a z) = going_more k m out (going_shifts e h d) a z

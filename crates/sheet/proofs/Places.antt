@@ -1,7 +1,7 @@
 -- Each line of the table stands at its place: lines that follow one another without a gap, by one computed test.
 use mathlib.Core.Bool.{Bool, true, ◌&&◌}
 use mathlib.Core.List.{List, [], ◌∷◌, ◌++◌, append_assoc}
-use mathlib.Core.Path.{◌≡◌, refl, sym, ap, ◌∙◌}
+use mathlib.Core.Path.{◌≡◌, refl, sym, ap, subst, ◌∙◌}
 use Prim.Native.Nat.{ℕ, ◌+◌}
 use native.Mathlib.Omega.{arith}
 use lib.Dec.{T, eqb, eqb→eq}
@@ -38,7 +38,9 @@ placed a before (l ∷ ls) behind e t =
     let u = and_r (eqb l.place a) _ t in
     let s : length (bytes_in l.size l.content) ≡ l.size = eqb→eq _ _ (and_l (eqb (length b) l.size) _ u) in (
       rw (p, drop_at before (b ++ laid ls ++ behind) a e, append_assoc b (laid ls) behind, take_at b (laid ls ++ behind) l.size s),
-      rw (append_assoc b (laid ls) behind, ← (append_assoc before b (laid ls ++ behind)))
+      subst
+          (λ (x : List ℕ). Placed x ls)
+          (append_assoc before b (laid ls ++ behind) ∙ ap (λ (x : List ℕ). before ++ x) (sym (append_assoc b (laid ls) behind)))
           (placed (a + l.size) (before ++ b) ls behind (rw (length-append, e, s)) (and_r (eqb (length b) l.size) _ u)),
     )
 

@@ -1,0 +1,8 @@
+// The archive that C links: the functions of the headers, each a call of the proved function of its name.
+#![tactic(auto)]
+
+mod beside;
+mod card_slot;
+mod keeping;
+mod page;
+mod runs;
