@@ -1,7 +1,6 @@
 -- Document 01, "Work of the array": what unit i of an operation does, and how long an operation is.
-use Rattle.std.specs.Prelude.{Bool, List, ◌≡◌, ℕ, zero, suc, ◌+◌, ◌-◌, ◌*◌, ◌<◌, min, ltb, length, get_or, set}
+use Rattle.std.specs.Prelude.{Bool, List, ◌≡◌, ℕ, zero, suc, ◌+◌, ◌-◌, ◌*◌, ◌<◌, min, ltb, length, get_or, set, if◌then◌else◌}
 use Rattle.std.specs.Int.Bits.{bit_and}
-use Rattle.part.specs.Choice.{if◌then◌else◌}
 use Rattle.part.specs.Part.{page, rows, place, block, Sound}
 use Rattle.part.specs.declared.Geometry.{Geometry}
 use Rattle.part.specs.declared.Row.{Row}

@@ -1,6 +1,5 @@
 -- Beside a run: the next byte on DO, the units left of an operation, work of any length, and memory that was never used.
-use Rattle.std.specs.Prelude.{◌&&◌, List, [], ◌∷◌, ℕ, ◌-◌, ◌*◌, length, replicate}
-use Rattle.part.specs.Choice.{if◌then◌else◌}
+use Rattle.std.specs.Prelude.{◌&&◌, List, [], ◌∷◌, ℕ, ◌-◌, ◌*◌, length, replicate, if◌then◌else◌}
 use Rattle.part.specs.Part.{page, rows, sound_part}
 use Rattle.part.specs.declared.Geometry.{Geometry}
 use Rattle.buslog.specs.declared.Record.TheVariants.{Units}

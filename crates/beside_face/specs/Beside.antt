@@ -1,6 +1,5 @@
 -- Beside a run, in plain numbers: the header's version, the next byte, the units of an operation, and memory that was never used.
-use Rattle.std.specs.Prelude.{List, ℕ, eqb}
-use Rattle.part.specs.Choice.{if◌then◌else◌}
+use Rattle.std.specs.Prelude.{List, ℕ, eqb, if◌then◌else◌}
 use Rattle.part.specs.declared.Geometry.{Geometry}
 use Rattle.array.specs.declared.Job.TheVariants.{Read, Program, Erase, Restart}
 use Rattle.part_numbers.specs.Numbers.{part_of}

@@ -1,6 +1,5 @@
 -- What is promised of the next byte in numbers: when it is refused.
-use Rattle.std.specs.Prelude.{not, List, ◌≡◌, ℕ, eqb, length}
-use Rattle.part.specs.Choice.{if◌then◌else◌}
+use Rattle.std.specs.Prelude.{not, List, ◌≡◌, ℕ, eqb, length, if◌then◌else◌}
 use Rattle.part.specs.Part.{page, sound_part}
 use Rattle.part_numbers.specs.Numbers.{part_of}
 use Rattle.face.specs.Face.{state_of, sound_told}

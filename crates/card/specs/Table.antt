@@ -1,6 +1,5 @@
 -- 001's command table: what the first two bytes of a command say. "S0 being the lowest bit of the first byte, A8 and A9 its two highest."
-use Rattle.std.specs.Prelude.{◌&&◌, ◌||◌, ℕ, ◌+◌, ◌*◌, ◌/◌, eqb}
-use Rattle.part.specs.Choice.{if◌then◌else◌}
+use Rattle.std.specs.Prelude.{◌&&◌, ◌||◌, ℕ, ◌+◌, ◌*◌, ◌/◌, eqb, if◌then◌else◌}
 use Rattle.card.specs.declared.Command.{Command}
 use Rattle.card.specs.declared.Command.TheVariants.{WriteWithBit, Write, Protect, ReadWithBit, Read, Count, Compare, Ignored}
 

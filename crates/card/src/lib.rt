@@ -1,8 +1,7 @@
 // The card FM4428: what one command answers and changes. Document 02, item 5, and source document 001.
 #![tactic(auto)]
-ghost use Rattle.std.specs.Prelude.{◌&&◌, ◌≡◌, ◌+◌, ◌-◌, ◌*◌, ◌/◌, ◌%◌, ◌^◌, ◌≤◌, ◌<◌, eqb, length, set};
+ghost use Rattle.std.specs.Prelude.{◌&&◌, ◌≡◌, ◌+◌, ◌-◌, ◌*◌, ◌/◌, ◌%◌, ◌^◌, ◌≤◌, ◌<◌, eqb, length, set, if◌then◌else◌};
 ghost use Rattle.std.specs.Int.Bits.{bit_and};
-ghost use Rattle.part.specs.Choice.{if◌then◌else◌};
 ghost use Rattle.buslog.specs.Write.{over};
 ghost use Rattle.card.specs.Table.{address_of, command_of};
 ghost use Rattle.card.specs.Card.{card, is_open, cell_at, bit_at, shut, clears_one, spends, writable, anew, counted, compared, commanded, told, answer_of, answer_length, sent};

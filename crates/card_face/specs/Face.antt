@@ -1,6 +1,5 @@
 -- The card in numbers, and what a run in C answers: that of the card slot, but for a number that is no stage.
-use Rattle.std.specs.Prelude.{not, List, ℕ, eqb, leb, length}
-use Rattle.part.specs.Choice.{if◌then◌else◌}
+use Rattle.std.specs.Prelude.{not, List, ℕ, eqb, leb, length, if◌then◌else◌}
 use Rattle.card.specs.Card.{card}
 use Rattle.card.specs.declared.Stage.{Stage}
 use Rattle.card.specs.declared.Stage.TheVariants.{Fresh, Counted, Half, Open}

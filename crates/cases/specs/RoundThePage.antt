@@ -1,7 +1,6 @@
 -- Document 02, item 6: a cache read goes on at column 0 behind the page's last column; loads do not. For every part and every machine; and
 -- cases on the bench part, one table.
-use Rattle.std.specs.Prelude.{Bool, false, true, ◌&&◌, ◌||◌, List, [], ◌∷◌, ◌++◌, map, ◌≡◌, ℕ, ◌+◌, ◌-◌, ◌%◌, ◌<◌, min, ltb, leb, eqb, length, get_or, replicate}
-use Rattle.part.specs.Choice.{if◌then◌else◌}
+use Rattle.std.specs.Prelude.{Bool, false, true, ◌&&◌, ◌||◌, List, [], ◌∷◌, ◌++◌, map, ◌≡◌, ℕ, ◌+◌, ◌-◌, ◌%◌, ◌<◌, min, ltb, leb, eqb, length, get_or, replicate, if◌then◌else◌}
 use Rattle.part.specs.Part.{bench, page, Sound}
 use Rattle.part.specs.declared.Geometry.{Geometry}
 use Rattle.part.specs.declared.Stepping.TheVariants.{First}

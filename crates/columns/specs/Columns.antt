@@ -1,6 +1,5 @@
 -- Document 01, "Instructions": the next column, the column of an address, and the byte of the cache register at a column.
-use Rattle.std.specs.Prelude.{List, ℕ, ◌+◌, ◌*◌, ◌%◌, min, eqb, get_or}
-use Rattle.part.specs.Choice.{if◌then◌else◌}
+use Rattle.std.specs.Prelude.{List, ℕ, ◌+◌, ◌*◌, ◌%◌, min, eqb, get_or, if◌then◌else◌}
 use Rattle.part.specs.declared.Column.{Column}
 
 -- the next column stays at 4,096 once reached

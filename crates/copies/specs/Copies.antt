@@ -1,6 +1,5 @@
 -- Document 02, item 1: the three copies of the parameter page, and their reader.
-use Rattle.std.specs.Prelude.{Bool, ◌&&◌, List, [], ◌∷◌, ◌≡◌, ℕ, ◌*◌, eqb, ltb, length, get_or}
-use Rattle.part.specs.Choice.{if◌then◌else◌}
+use Rattle.std.specs.Prelude.{Bool, ◌&&◌, List, [], ◌∷◌, ◌≡◌, ℕ, ◌*◌, eqb, ltb, length, get_or, if◌then◌else◌}
 use Rattle.part.specs.declared.Geometry.{Geometry}
 use Rattle.crc.specs.Crc.{crc_of}
 use Rattle.sheet.specs.Numbers.{number_in, stretch}

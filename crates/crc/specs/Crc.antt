@@ -1,8 +1,7 @@
 -- Document 02, item 1: the ONFI 1.0 check of a stretch of bytes, a bit at a time: 16 bits, polynomial 8005h, start 4F4Eh, highest bit
 -- first.
-use Rattle.std.specs.Prelude.{List, [], ◌∷◌, ◌≡◌, ℕ, ◌*◌, ◌/◌, ◌%◌, ◌<◌, eqb, get_or}
+use Rattle.std.specs.Prelude.{List, [], ◌∷◌, ◌≡◌, ℕ, ◌*◌, ◌/◌, ◌%◌, ◌<◌, eqb, get_or, if◌then◌else◌}
 use Rattle.std.specs.Int.Bits.{bit_xor}
-use Rattle.part.specs.Choice.{if◌then◌else◌}
 
 -- the polynomial x^16 + x^15 + x^2 + 1, without its x^16
 abbrev pub polynomial : ℕ

@@ -1,6 +1,5 @@
 -- Document 01, "Instructions": a byte shifted in with its answer on DO, and what an instruction does as chip select rises.
-use Rattle.std.specs.Prelude.{List, [], ◌∷◌, ℕ}
-use Rattle.part.specs.Choice.{if◌then◌else◌}
+use Rattle.std.specs.Prelude.{List, [], ◌∷◌, ℕ, if◌then◌else◌}
 use Rattle.part.specs.declared.Geometry.{Geometry}
 use Rattle.part.specs.declared.Row.{Row}
 use Rattle.registers.specs.Registers.{oip, wel, wel_set, wel_cleared, request_cleared, e_fail_set, p_fail_set, reset_status, register_written}

@@ -1,6 +1,5 @@
 -- Document 01, "Work of the array": an operation begins, does its units and ends. (What a unit writes stands with the array.)
-use Rattle.std.specs.Prelude.{ℕ, zero, suc, ltb}
-use Rattle.part.specs.Choice.{if◌then◌else◌}
+use Rattle.std.specs.Prelude.{ℕ, zero, suc, ltb, if◌then◌else◌}
 use Rattle.part.specs.declared.Geometry.{Geometry}
 use Rattle.array.specs.Jobs.{Store, length_of, written, Ready}
 use Rattle.array.specs.declared.Job.{Job}

@@ -1,4 +1,5 @@
 -- A page without a marked bit: its sectors have none, and mending leaves it as it is.
+use Rattle.std.specs.Prelude.{if◌then◌else◌}
 use mathlib.Core.List.{List}
 use mathlib.Core.Path.{◌≡◌, refl, ap, ap₂, ◌∙◌, fun_ext}
 use Prim.Native.Nat.{ℕ, zero, suc, ◌+◌, max}
@@ -9,7 +10,6 @@ use lib.Count.{ones, ones_in}
 use lib.Dec.{leb}
 use lib.ListN.{length, get_or, set}
 use lib.Seq.{set-get_or}
-use Rattle.part.specs.Choice.{if◌then◌else◌}
 use Rattle.part.specs.declared.Geometry.{Geometry}
 use Rattle.part.proofs.Choice.{cond_keep}
 use Rattle.stretches.specs.Steps.{steps, ones_from, sum_from}

@@ -1,7 +1,6 @@
 -- Document 02, item 3: marked bits, the sectors of a page, what a read's last unit mends, and what it says in ECCS.
-use Rattle.std.specs.Prelude.{Bool, ◌&&◌, ◌||◌, List, ℕ, ◌+◌, ◌*◌, ◌/◌, ◌%◌, max, eqb, leb, ltb, get_or, set}
+use Rattle.std.specs.Prelude.{Bool, ◌&&◌, ◌||◌, List, ℕ, ◌+◌, ◌*◌, ◌/◌, ◌%◌, max, eqb, leb, ltb, get_or, set, if◌then◌else◌}
 use Rattle.std.specs.Int.Bits.{bit_xor}
-use Rattle.part.specs.Choice.{if◌then◌else◌}
 use Rattle.part.specs.Part.{page}
 use Rattle.part.specs.declared.Geometry.{Geometry}
 use Rattle.stretches.specs.Steps.{steps, ones_from}

@@ -1,4 +1,5 @@
 -- The records of bytes on the bus: their log is read to its end, what of it fits, and what its run leaves.
+use Rattle.std.specs.Prelude.{if◌then◌else◌}
 use mathlib.Core.Bool.{true}
 use mathlib.Core.List.{List, [], ◌∷◌, ◌++◌, append-nil}
 use mathlib.Core.Path.{◌≡◌, refl, sym, ap, ◌∙◌}
@@ -9,7 +10,6 @@ use lib.Dec.{T, ltb}
 use lib.ListN.{length, take, drop, length-append}
 use lib.Seq.{take_all, length-take-le}
 use borrow.Author.Tests.{lt-ltb, le-ltb}
-use Rattle.part.specs.Choice.{if◌then◌else◌}
 use Rattle.part.specs.Part.{Sound}
 use Rattle.part.specs.declared.Geometry.{Geometry}
 use Rattle.buslog.specs.Log.{written, levels_sound, Bytes}

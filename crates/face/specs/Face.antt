@@ -1,6 +1,5 @@
 -- The device state in plain numbers, as C has them: what they stand for, and the numbers of a state.
-use Rattle.std.specs.Prelude.{Bool, false, ◌&&◌, ℕ, eqb, leb}
-use Rattle.part.specs.Choice.{if◌then◌else◌}
+use Rattle.std.specs.Prelude.{Bool, false, ◌&&◌, ℕ, eqb, leb, if◌then◌else◌}
 use Rattle.part.specs.declared.Geometry.{Geometry}
 use Rattle.part.specs.declared.Row.{Row}
 use Rattle.array.specs.declared.Job.{Job}

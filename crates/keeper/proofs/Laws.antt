@@ -1,4 +1,5 @@
 -- The laws of one adding and of one grant.
+use Rattle.std.specs.Prelude.{if◌then◌else◌}
 use mathlib.Core.Bool.{Bool, true, false, not}
 use mathlib.Core.List.{List, [], ◌∷◌, ◌++◌}
 use mathlib.Core.Logic.{◌↔◌}
@@ -9,7 +10,6 @@ use borrow.Author.Tests.{not-true, not-false, le-leb, lt-leb, leb-true, leb-fals
 use lib.Dec.{leb, eqb}
 use lib.ListN.{length, length-set}
 use lib.Seq.{get_or-set_same, get_or-set_other}
-use Rattle.part.specs.Choice.{if◌then◌else◌}
 use Rattle.part.proofs.Choice.{cond_keep}
 use Rattle.keeper.specs.declared.Queue.{Queue}
 use Rattle.keeper.specs.declared.Keeper.{Keeper}

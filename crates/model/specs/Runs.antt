@@ -1,7 +1,6 @@
 -- A run: the checks 1 to 5, then the records of the log as far as they can be read and their output has room; and what every buffer then
 -- holds.
-use Rattle.std.specs.Prelude.{List, [], ◌∷◌, ◌++◌, ℕ, ◌+◌, ◌-◌, ltb, length, drop}
-use Rattle.part.specs.Choice.{if◌then◌else◌}
+use Rattle.std.specs.Prelude.{List, [], ◌∷◌, ◌++◌, ℕ, ◌+◌, ◌-◌, ltb, length, drop, if◌then◌else◌}
 use Rattle.part.specs.declared.Geometry.{Geometry}
 use Rattle.buslog.specs.Log.{written}
 use Rattle.buslog.specs.Read.{Parsed, parse}

@@ -1,4 +1,3 @@
-pub mod Choice
 pub mod Part
 pub mod Protection
 pub mod Promises

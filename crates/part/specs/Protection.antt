@@ -1,6 +1,5 @@
 -- Document 01, "Protection", and document 02, "the complement bit": which blocks register A0h protects.
-use Rattle.std.specs.Prelude.{Bool, false, not, ◌&&◌, ℕ, ◌+◌, ◌-◌, ◌*◌, ◌/◌, ◌%◌, ◌^◌, leb, ltb, eqb}
-use Rattle.part.specs.Choice.{if◌then◌else◌}
+use Rattle.std.specs.Prelude.{Bool, false, not, ◌&&◌, ℕ, ◌+◌, ◌-◌, ◌*◌, ◌/◌, ◌%◌, ◌^◌, leb, ltb, eqb, if◌then◌else◌}
 use Rattle.part.specs.declared.Geometry.{Geometry}
 use Rattle.part.specs.declared.Stepping.{Stepping}
 use Rattle.part.specs.declared.Stepping.TheVariants.{First, Second}

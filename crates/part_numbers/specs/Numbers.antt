@@ -1,6 +1,5 @@
 -- The part in plain numbers, as C has them: what they stand for, the numbers of a part, and the lengths that the lent memory must have.
-use Rattle.std.specs.Prelude.{ℕ, ◌*◌, eqb, leb}
-use Rattle.part.specs.Choice.{if◌then◌else◌}
+use Rattle.std.specs.Prelude.{ℕ, ◌*◌, eqb, leb, if◌then◌else◌}
 use Rattle.part.specs.Part.{page, rows, sound_part, no_part}
 use Rattle.part.specs.declared.Geometry.{Geometry}
 use Rattle.part.specs.declared.Stepping.{Stepping}

@@ -1,4 +1,5 @@
 -- Until the code has passed, a run changes the counter alone: it loses bits at most.
+use Rattle.std.specs.Prelude.{if◌then◌else◌}
 use mathlib.Core.Bool.{Bool, false}
 use mathlib.Core.List.{List, [], ◌∷◌}
 use mathlib.Core.Path.{◌≡◌, refl, ap, ◌∙◌}
@@ -8,7 +9,6 @@ use native.Mathlib.Omega.{arith}
 use lib.Bits.{bit_and, and_le_l}
 use lib.ListN.{length, length-set}
 use lib.Seq.{get_or-set_other}
-use Rattle.part.specs.Choice.{if◌then◌else◌}
 use Rattle.cardlog.specs.declared.Record.{Record}
 use Rattle.card.specs.Table.{counter}
 use Rattle.card.specs.Card.{Card, is_open, cell_at, step, run}

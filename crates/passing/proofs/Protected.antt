@@ -1,4 +1,5 @@
 -- A byte whose protect bit is 0 never changes, and its bit stays 0.
+use Rattle.std.specs.Prelude.{if◌then◌else◌}
 use mathlib.Core.Bool.{Bool, true, ◌&&◌}
 use mathlib.Core.List.{List, [], ◌∷◌}
 use mathlib.Core.Path.{◌≡◌, refl, ap, ◌∙◌}
@@ -9,7 +10,6 @@ use lib.Dec.{eqb}
 use lib.ListN.{set}
 use lib.Seq.{get_or-set_other}
 use borrow.Author.Tests.{eqb-true}
-use Rattle.part.specs.Choice.{if◌then◌else◌}
 use Rattle.part.proofs.Choice.{cond_keep}
 use Rattle.cardlog.specs.declared.Record.{Record}
 use Rattle.cardlog.specs.declared.Record.TheVariants.{Sent, Power}

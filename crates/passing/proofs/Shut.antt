@@ -1,4 +1,5 @@
 -- A protect bit made 0 is that bit and no other.
+use Rattle.std.specs.Prelude.{if◌then◌else◌}
 use mathlib.Core.Bool.{Bool, true, false}
 use mathlib.Core.List.{List, [], ◌∷◌}
 use mathlib.Core.Path.{◌≡◌, refl, sym, ap, ◌∙◌}
@@ -9,7 +10,6 @@ use lib.Dec.{eqb}
 use lib.ListN.{get_or, set}
 use lib.Seq.{get_or-set_other}
 use borrow.Author.Tests.{eqb-true, eqb-false}
-use Rattle.part.specs.Choice.{if◌then◌else◌}
 use Rattle.card.specs.Card.{bit_at, shut}
 use Rattle.passing.specs.Promises.{ShutsOne}
 use Rattle.passing.proofs.Digits.{half_digit}

@@ -1,4 +1,5 @@
 -- One record done: what it leaves of a card that is not open, and how far the code has then been given.
+use Rattle.std.specs.Prelude.{if◌then◌else◌}
 use mathlib.Core.Bool.{Bool, true, false, ◌&&◌, ◌||◌}
 use mathlib.Core.Path.{◌≡◌, refl, sym, subst}
 use Prim.Native.Nat.{ℕ, ◌%◌}
@@ -6,7 +7,6 @@ use lib.Bits.{bit_and}
 use lib.Dec.{T, eqb}
 use lib.ListN.{set}
 use borrow.Author.Tests.{eqb-true}
-use Rattle.part.specs.Choice.{if◌then◌else◌}
 use Rattle.part.proofs.Choice.{cond_yes, cond_keep, T_true, true_T, and_l, and_r}
 use Rattle.cardlog.specs.declared.Record.{Record}
 use Rattle.cardlog.specs.declared.Record.TheVariants.{Sent, Power}

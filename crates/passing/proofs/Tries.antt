@@ -1,4 +1,5 @@
 -- How often the code can be tried: each try takes a bit of the counter, and where none can be taken the card never opens.
+use Rattle.std.specs.Prelude.{if◌then◌else◌}
 use mathlib.Core.Bool.{Bool, false}
 use mathlib.Core.List.{List, [], ◌∷◌}
 use mathlib.Core.Logic.{◌⊎◌, inl, inr}
@@ -8,7 +9,6 @@ use native.Mathlib.Omega.{arith}
 use lib.Bits.{bit_and}
 use lib.Count.{ones, ones_in, ones-le}
 use borrow.Author.Tests.{eqb-true}
-use Rattle.part.specs.Choice.{if◌then◌else◌}
 use Rattle.cardlog.specs.declared.Record.{Record}
 use Rattle.card.specs.Table.{counter}
 use Rattle.card.specs.Card.{Card, is_open, cell_at, bit_at, step, run}

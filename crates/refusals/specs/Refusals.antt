@@ -1,6 +1,5 @@
 -- Document 01, "Numbers of refusal": the refusals, their numbers, and the checks 1 to 5.
-use Rattle.std.specs.Prelude.{Bool, true, false, not, ℕ, ◌*◌, eqb, length}
-use Rattle.part.specs.Choice.{if◌then◌else◌}
+use Rattle.std.specs.Prelude.{Bool, true, false, not, ℕ, ◌*◌, eqb, length, if◌then◌else◌}
 use Rattle.part.specs.Part.{page, rows, sound_part}
 use Rattle.part.specs.declared.Geometry.{Geometry}
 use Rattle.buslog.specs.declared.Why.{Why}

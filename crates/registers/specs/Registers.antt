@@ -1,7 +1,6 @@
 -- Document 01, "Registers". (Protection, which reads A0h, stands with the part.)
-use Rattle.std.specs.Prelude.{Bool, not, ◌&&◌, ℕ, ◌+◌, ◌*◌, ◌/◌, ◌%◌, eqb}
+use Rattle.std.specs.Prelude.{Bool, not, ◌&&◌, ℕ, ◌+◌, ◌*◌, ◌/◌, ◌%◌, eqb, if◌then◌else◌}
 use Rattle.std.specs.Int.Bits.{bit_and}
-use Rattle.part.specs.Choice.{if◌then◌else◌}
 use Rattle.part.specs.declared.Geometry.{Geometry}
 use Rattle.part.specs.declared.Stepping.{Stepping}
 use Rattle.part.specs.declared.Stepping.TheVariants.{First, Second}

@@ -1,6 +1,5 @@
 -- Document 01, "Instructions": the byte on DO, FFh wherever no answer is named.
-use Rattle.std.specs.Prelude.{not, List, ℕ, leb, eqb}
-use Rattle.part.specs.Choice.{if◌then◌else◌}
+use Rattle.std.specs.Prelude.{not, List, ℕ, leb, eqb, if◌then◌else◌}
 use Rattle.part.specs.declared.Geometry.{Geometry}
 use Rattle.registers.specs.Registers.{register}
 use Rattle.registers.specs.declared.Registers.{Registers}

@@ -1,6 +1,5 @@
 -- Document 01, "Instructions", 10h and D8h: whether a request to program or to erase begins, and what it does to the page counts.
-use Rattle.std.specs.Prelude.{Bool, true, false, not, List, ◌++◌, ℕ, ◌+◌, ◌*◌, leb, length, get_or, take, drop, set, replicate}
-use Rattle.part.specs.Choice.{if◌then◌else◌}
+use Rattle.std.specs.Prelude.{Bool, true, false, not, List, ◌++◌, ℕ, ◌+◌, ◌*◌, leb, length, get_or, take, drop, set, replicate, if◌then◌else◌}
 use Rattle.part.specs.Part.{block}
 use Rattle.part.specs.Protection.{protects}
 use Rattle.part.specs.declared.Geometry.{Geometry}

@@ -1,10 +1,10 @@
 -- Whether a call is refused, from its refusal.
+use Rattle.std.specs.Prelude.{if◌then◌else◌}
 use mathlib.Core.Bool.{true, false}
 use mathlib.Core.Path.{◌≡◌, refl, sym, ap, ◌∙◌}
 use Prim.Native.Nat.{ℕ}
 use native.Mathlib.Omega.{arith}
 use lib.Dec.{eqb}
-use Rattle.part.specs.Choice.{if◌then◌else◌}
 use Rattle.keeper.specs.declared.Refused.{Refused}
 use Rattle.keeper.specs.declared.Refused.TheVariants.{Not, BadCore, QueueFull, AllEmpty, BadKeeper}
 use Rattle.keeper.specs.Keeper.{number_of}

@@ -1,11 +1,11 @@
 -- A keeper stays good, and each core is granted what was added for it, in its order and once.
+use Rattle.std.specs.Prelude.{if◌then◌else◌}
 use mathlib.Core.Bool.{Bool, true, false}
 use mathlib.Core.List.{List, [], ◌∷◌, ◌++◌, append_assoc, append-nil}
 use mathlib.Core.Path.{◌≡◌, refl, sym, ap, ◌∙◌}
 use Prim.Native.Nat.{ℕ}
 use borrow.Author.Tests.{eqb-true, eqb-false}
 use lib.Dec.{eqb}
-use Rattle.part.specs.Choice.{if◌then◌else◌}
 use Rattle.keeper.specs.declared.Keeper.{Keeper}
 use Rattle.keeper.specs.Keeper.{waiting, waiting_in, add_of, grant_of}
 use Rattle.keeper.specs.Promises.{Good, AtBack, InTurn}

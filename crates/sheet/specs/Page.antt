@@ -1,6 +1,5 @@
 -- Document 02, item 1: the parameter page and its maker.
-use Rattle.std.specs.Prelude.{List, ◌++◌, ℕ, ltb, length, drop}
-use Rattle.part.specs.Choice.{if◌then◌else◌}
+use Rattle.std.specs.Prelude.{List, ◌++◌, ℕ, ltb, length, drop, if◌then◌else◌}
 use Rattle.part.specs.Part.{sound_part}
 use Rattle.part.specs.declared.Geometry.{Geometry}
 use Rattle.crc.specs.Crc.{crc_of}

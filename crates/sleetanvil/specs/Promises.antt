@@ -1,7 +1,6 @@
 -- What is promised of a run in numbers: those that stand for no state are refused in the paper's order, those of no sound part before all
 -- else, an event needs no output but for a shift, and work is the run of its record.
-use Rattle.std.specs.Prelude.{false, not, List, ◌≡◌, ℕ, ◌*◌, ◌<◌, eqb}
-use Rattle.part.specs.Choice.{if◌then◌else◌}
+use Rattle.std.specs.Prelude.{false, not, List, ◌≡◌, ℕ, ◌*◌, ◌<◌, eqb, if◌then◌else◌}
 use Rattle.part.specs.Part.{page, rows, sound_part}
 use Rattle.part.specs.declared.Geometry.{Geometry}
 use Rattle.buslog.specs.Log.{bytes_of}

@@ -1,7 +1,6 @@
 -- A run: the checks 17 and 18, then the records of the log as far as they can be read and their answers have room; and what every buffer
 -- then holds.
-use Rattle.std.specs.Prelude.{List, [], ◌∷◌, ◌++◌, ℕ, ◌+◌, ◌-◌, ltb, length, drop}
-use Rattle.part.specs.Choice.{if◌then◌else◌}
+use Rattle.std.specs.Prelude.{List, [], ◌∷◌, ◌++◌, ℕ, ◌+◌, ◌-◌, ltb, length, drop, if◌then◌else◌}
 use Rattle.cardlog.specs.Log.{written}
 use Rattle.cardlog.specs.Read.{Parsed, parse}
 use Rattle.cardlog.specs.declared.Record.{Record}

@@ -1,6 +1,5 @@
 -- The checks of a run, and one turn of it: where a run stands, and the record at its place done.
-use Rattle.std.specs.Prelude.{not, List, ◌≡◌, ℕ, ◌+◌, ◌-◌, ◌≤◌, eqb, ltb, length}
-use Rattle.part.specs.Choice.{if◌then◌else◌}
+use Rattle.std.specs.Prelude.{not, List, ◌≡◌, ℕ, ◌+◌, ◌-◌, ◌≤◌, eqb, ltb, length, if◌then◌else◌}
 use Rattle.buslog.specs.Write.{over}
 use Rattle.cardlog.specs.declared.Next.{Next}
 use Rattle.cardlog.specs.declared.Next.TheVariants.{Found, Stop}

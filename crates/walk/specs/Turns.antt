@@ -1,6 +1,5 @@
 -- One turn of a run: the output of a record, where a run stands, and the record at its place done.
-use Rattle.std.specs.Prelude.{List, [], ◌∷◌, ℕ, ◌+◌, ◌-◌, ◌≤◌, ltb, length}
-use Rattle.part.specs.Choice.{if◌then◌else◌}
+use Rattle.std.specs.Prelude.{List, [], ◌∷◌, ℕ, ◌+◌, ◌-◌, ◌≤◌, ltb, length, if◌then◌else◌}
 use Rattle.part.specs.declared.Geometry.{Geometry}
 use Rattle.buslog.specs.Write.{over}
 use Rattle.buslog.specs.declared.Next.{Next}

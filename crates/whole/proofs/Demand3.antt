@@ -1,4 +1,5 @@
 -- Demand 3 holds of what `run` returned and left.
+use Rattle.std.specs.Prelude.{if◌then◌else◌}
 use mathlib.Core.Bool.{Bool, true, false, ◌&&◌}
 use mathlib.Core.List.{List, []}
 use mathlib.Core.Path.{◌≡◌, refl, sym, ap, subst, ◌∙◌}
@@ -6,7 +7,6 @@ use Prim.Native.Nat.{ℕ, ◌<◌}
 use lib.Dec.{T, ltb}
 use lib.ListN.{length, get_or, take, drop, get_or-append}
 use lib.Seq.{take-length}
-use Rattle.part.specs.Choice.{if◌then◌else◌}
 use Rattle.part.specs.Part.{Sound}
 use Rattle.part.specs.declared.Geometry.{Geometry}
 use Rattle.part.proofs.Choice.{cond_keep, true_T, and_l, and_r}

@@ -1,6 +1,5 @@
 -- Demand 3 (T6), stated of what `model::run` returned and left in the lent memory.
-use Rattle.std.specs.Prelude.{Bool, false, ◌&&◌, List, [], ◌∷◌, ◌↔◌, ◌≡◌, ℕ, ◌<◌, T, length, get_or, take}
-use Rattle.part.specs.Choice.{if◌then◌else◌}
+use Rattle.std.specs.Prelude.{Bool, false, ◌&&◌, List, [], ◌∷◌, ◌↔◌, ◌≡◌, ℕ, ◌<◌, T, length, get_or, take, if◌then◌else◌}
 use Rattle.part.specs.declared.Geometry.{Geometry}
 use Rattle.buslog.specs.Log.{Bytes}
 use Rattle.buslog.specs.Read.{parse}

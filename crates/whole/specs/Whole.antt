@@ -1,8 +1,7 @@
 -- Document 01, "Work of the array", last paragraph: the same machine with every operation done whole as it begins, by the page and block
 -- sentences.
-use Rattle.std.specs.Prelude.{List, [], ◌∷◌, ◌≡◌, ℕ, ◌*◌, take, drop, replicate}
+use Rattle.std.specs.Prelude.{List, [], ◌∷◌, ◌≡◌, ℕ, ◌*◌, take, drop, replicate, if◌then◌else◌}
 use Rattle.std.specs.Int.Bits.{bit_and}
-use Rattle.part.specs.Choice.{if◌then◌else◌}
 use Rattle.part.specs.Part.{page}
 use Rattle.part.specs.declared.Geometry.{Geometry}
 use Rattle.part.specs.declared.Row.{Row}
