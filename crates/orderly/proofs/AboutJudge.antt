@@ -1,6 +1,7 @@
 -- Where `judge` says that a log was orderly, its end is that of the whole run.
 use mathlib.Core.Bool.{true}
-use mathlib.Core.Path.{◌≡◌, ap, sym, ◌∙◌}
+use mathlib.Core.Path.{◌≡◌, ap, sym, subst, ◌∙◌}
+use lib.Dec.{T}
 use borrow.Fn.Kinds.{Dens, res_t, ended_of}
 use contract.Lifetimes.{Lfts}
 use denote.Triple.Clauses.{AtExit}
@@ -25,4 +26,4 @@ module _ (κs : Lfts 5) (a : Dens κs judge-kinds.ps) (x : (res_t judge-kinds.r 
   about_judge p h e =
       let r : returned ≡ end_of handed = ap (λ (j : Judgement). j.end) p in
       let t : supposed handed (end_of handed) ≡ true = sym (ap (λ (j : Judgement). j.orderly) p) ∙ e in
-      demand_3 handed h returned r (rw r (true_T (supposed handed (end_of handed)) t))
+      demand_3 handed h returned r (subst (λ (z : End). T (supposed handed z)) (sym r) (true_T (supposed handed (end_of handed)) t))

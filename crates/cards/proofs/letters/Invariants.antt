@@ -1,0 +1,14 @@
+-- `letters` is safe and ends: its place stays within the slice, what is left of the slice falls, and the memory keeps its lengths.
+use mathlib.Core.Path.{◌≡◌}
+use Prim.Native.Nat.{◌≤◌, ◌-◌}
+use native.Mathlib.Omega.{arith}
+use lib.ListN.{length}
+use borrow.Author.Rules.{rules}
+use Rattle.cards.proofs.letters.Given as goal
+
+abbrev pub invariant-loop-i : goal.invariant-loop-i
+invariant-loop-i l =
+    (l.i ≤ length l.s) × (length l.log ≡ length l.initial.log) × (length l.cells ≡ length l.initial.cells) × (length l.bits ≡ length l.initial.bits) × (length l.out ≡ length l.initial.out)
+
+abbrev pub decreases-loop-i : goal.decreases-loop-i
+decreases-loop-i l = length l.s - l.i

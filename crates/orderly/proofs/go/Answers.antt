@@ -1,0 +1,19 @@
+-- The loop over the log: each turn keeps `Judging`, and the way out is the judgement on the whole run.
+use mathlib.Core.Path.{sym, ◌∙◌}
+use Prim.Native.Nat.{◌-◌}
+use native.Mathlib.Omega.{arith}
+use borrow.Author.Rules.{rules}
+use lib.ListN.{length}
+use Rattle.device.specs.Machine.{machine}
+use Rattle.model.proofs.Loop.{out_long, stands}
+use Rattle.orderly.proofs.Judging.{Judging, judging_start, judging_on, judging_off}
+use Rattle.orderly.proofs.go.Goals as goal
+
+pub loop-next-smaller : goal.loop-next-smaller
+loop-next-smaller c = let h = judging_on _ _ _ _ c.requires.0 (rw c.start-w.ensures c.requires.1) _ _ _ _ c.loop-next.invariant (λ i. omega (arith, c.shared_slice_known-1.given i)) _ _ _ _ _ c.onward.ensures _ c.in-On.is in omega (arith, h.0, h.1.going.inside)
+
+pub loop-next-preserved : goal.loop-next-preserved
+loop-next-preserved c = rw (c.both-so.ensures, c.welcome.ensures, c.next_at.ensures) (judging_on _ _ _ _ c.requires.0 (rw c.start-w.ensures c.requires.1) _ _ _ _ c.loop-next.invariant (λ i. omega (arith, c.shared_slice_known-1.given i)) _ _ _ _ _ c.onward.ensures _ c.in-On.is).1
+
+pub returns-in-Off : goal.returns-in-Off
+returns-in-Off c = rw (c.closed.ensures, c.so_far.ensures) (rw c.start-w.ensures at (judging_off _ _ _ _ c.requires.0 (rw c.start-w.ensures c.requires.1) _ _ _ _ c.loop-next.invariant (λ i. omega (arith, c.shared_slice_known-1.given i)) _ _ _ _ _ c.onward.ensures _ c.in-Off.is))
