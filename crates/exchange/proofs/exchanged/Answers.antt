@@ -1,0 +1,15 @@
+-- Bytes one after another: after i of them they are fed; a stream takes the rest. The measure is the bytes left.
+use mathlib.Core.Path.{sym, ◌∙◌}
+use Prim.Native.Nat.{◌-◌}
+use native.Mathlib.Omega.{arith}
+use lib.ListN.{length}
+use borrow.Author.Rules.{rules}
+use Rattle.exchange.proofs.Feeding.{Along, along_none, along_bus, along_all, along_part, part_fits}
+use Rattle.exchange.proofs.exchanged.Goals as goal
+
+pub loop-i-preserved : goal.loop-i-preserved
+loop-i-preserved c =
+    along_bus c.loop-i.invariant c.oip-busy.result _ _ _ c.loop-i-test.true c.caches.auto.cache c.oip-busy.ensures c.shifted_in-x.ensures c.caches.ensures c.byte_out.ensures
+
+pub returns : goal.returns
+returns c = along_all c.loop-i.invariant (omega (arith, c.loop-i-test.false))
