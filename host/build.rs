@@ -10,7 +10,7 @@ use std::process;
 
 const ARCHIVE: &str = "libsleetanvil.a";
 
-/// A function of the archive's last crate: one that `rt staticlib` made of a single crate lacks it.
+/// One of the functions of the headers that an archive of fewer crates lacks.
 const LAST: &[u8] = b"sleet_card_run";
 
 fn main() {
