@@ -3,7 +3,7 @@ use mathlib.Core.Bool.{not}
 use mathlib.Core.Path.{◌≡◌}
 use lib.Dec.{eqb}
 use lib.ListN.{length}
-use Rattle.part.specs.Choice.{if◌then◌else◌}
+use Rattle.std.specs.Prelude.{if◌then◌else◌}
 use Rattle.part.specs.Part.{page, sound_part}
 use Rattle.part_numbers.specs.Numbers.{part_of}
 use Rattle.face.specs.Face.{state_of, no_state, stand_in, sound_told}
