@@ -1,5 +1,6 @@
 // The array at work: an operation in progress, and its units, run as one loop an operation. Document 01, "Work of the array".
 #![tactic(auto)]
+
 ghost use Rattle.std.specs.Prelude.{◌≡◌, ◌+◌, ◌-◌, ◌≤◌, ◌<◌, length, get_or, set};
 ghost use Rattle.std.specs.Int.Bits.{bit_and};
 ghost use Rattle.part.specs.Part.{page, Sound};

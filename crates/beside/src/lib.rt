@@ -1,5 +1,6 @@
 // Beside a run: what a simulator asks and does between events. The next byte on DO, the units left, work of any length, blank memory.
 #![tactic(auto)]
+
 ghost use Rattle.std.specs.Prelude.{[], ◌≡◌};
 ghost use Rattle.device.specs.Machine.{machine};
 ghost use Rattle.device.specs.Work.{unitwise};

@@ -1,5 +1,6 @@
 // The card FM4428: what one command answers and changes. Document 02, item 5, and source document 001.
 #![tactic(auto)]
+
 ghost use Rattle.std.specs.Prelude.{◌&&◌, ◌≡◌, ◌+◌, ◌-◌, ◌*◌, ◌/◌, ◌%◌, ◌^◌, ◌≤◌, ◌<◌, eqb, length, set, if◌then◌else◌};
 ghost use Rattle.std.specs.Int.Bits.{bit_and};
 ghost use Rattle.buslog.specs.Write.{over};

@@ -9,7 +9,7 @@ use Rattle.cardlog.specs.Read.{parse}
 use Rattle.cardlog.specs.declared.Why.{Why}
 use Rattle.cardlog.specs.declared.Why.TheVariants as why
 use Rattle.cardlog.specs.declared.Record.{Record}
-use Rattle.card.specs.Card.{Card, run}
+use Rattle.card.specs.Card.{Card}
 use Rattle.slot.specs.Turns.{number_of, refusal_of}
 use Rattle.slot.specs.Runs.{room_for, Outcome, did, ran_of, run_of}
 use Rattle.slot.specs.declared.Refusal.{Refusal}

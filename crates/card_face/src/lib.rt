@@ -1,5 +1,6 @@
 // The card slot in C: the functions of include/sleetanvil.h, "the card slot". Plain numbers outside; every content is answered.
 #![tactic(auto)]
+
 ghost use Rattle.std.specs.Prelude.{◌≡◌};
 ghost use Rattle.cardlog.specs.Log.{bytes_of};
 ghost use Rattle.cardlog.specs.declared.Record.TheVariants.{Sent};

@@ -1,6 +1,7 @@
 // A table of calls on the proved card slot: each line of the input is a case, and a line is printed for it. The expected lines are printed
 // by the independent model; none is copied from what this program printed. The head of the input says how a line is written.
 #![tactic(auto)]
+
 ghost use Rattle.std.specs.Prelude.{◌≤◌};
 
 use card::Stage;

@@ -1,6 +1,7 @@
 // The instructions and their codes: which one a byte begins, what a busy array lets in, and the bytes of those that act as chip select
 // rises. Document 01, "Instructions".
 #![tactic(auto)]
+
 ghost use Rattle.std.specs.Prelude.{◌≡◌};
 ghost use Rattle.codes.specs.Codes.{byte_of, instruction_of, open?, heard_as, form_bytes};
 

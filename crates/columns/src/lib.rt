@@ -1,5 +1,6 @@
 // Columns of a page: the next one, that of an address, and the byte of the cache register at one. Document 01, "Instructions".
 #![tactic(auto)]
+
 ghost use Rattle.std.specs.Prelude.{◌≡◌, set};
 ghost use Rattle.columns.specs.Columns.{next, next_read, column_of, cache_byte};
 

@@ -1,5 +1,6 @@
 // The three copies of the parameter page, and their reader. Document 02, item 1; the datasheet's section 10.
 #![tactic(auto)]
+
 ghost use Rattle.std.specs.Prelude.{◌≡◌, ◌≤◌, length};
 ghost use Rattle.sheet.specs.Numbers.{number_in};
 ghost use Rattle.copies.specs.Copies.{signed, checked, holds, sizes_in, read_of};

@@ -1,5 +1,6 @@
 // The ONFI 1.0 check of a stretch of bytes, eight bits at a time by a table of 256 entries. Document 02, item 1.
 #![tactic(auto)]
+
 ghost use Rattle.std.specs.Prelude.{◌≡◌};
 ghost use Rattle.crc.specs.Crc.{RightTable, byte_fed, crc_of};
 

@@ -1,6 +1,7 @@
 // The device: its state, and what each event of the bus does to it.
 // Document 01, "Instructions" and "Work of the array". Each method takes the state whole and hands the next one back.
 #![tactic(auto)]
+
 ghost use Rattle.std.specs.Prelude.{◌≡◌};
 ghost use Rattle.array.specs.Jobs.{store};
 ghost use Rattle.transfer.specs.Transfer.{selects, with_pins};

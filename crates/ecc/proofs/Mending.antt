@@ -1,13 +1,11 @@
 -- The loop over the sectors: at sector j, going on mends and finds what going from the first sector does.
-use mathlib.Core.Bool.{Bool, true, false}
 use mathlib.Core.List.{List}
 use mathlib.Core.Path.{◌≡◌, refl, ◌∙◌}
-use Prim.Native.Nat.{ℕ, zero, suc, ◌+◌, ◌≤◌, ◌<◌, max}
+use Prim.Native.Nat.{ℕ, ◌+◌, ◌≤◌, ◌<◌, max}
 use native.Mathlib.Nat.{sub-zero}
 use native.Mathlib.Omega.{arith}
-use lib.ListN.{length, set, length-set}
+use lib.ListN.{length}
 use Rattle.part.specs.declared.Geometry.{Geometry}
-use Rattle.stretches.specs.Steps.{steps}
 use Rattle.stretches.proofs.Loop.{Taking, taking, taken, took}
 use Rattle.ecc.specs.Ecc.{sectors, marked, worst, mended_sector, mended}
 

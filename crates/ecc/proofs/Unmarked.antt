@@ -1,18 +1,17 @@
 -- A page without a marked bit: its sectors have none, and mending leaves it as it is.
-use Rattle.std.specs.Prelude.{if◌then◌else◌}
 use mathlib.Core.List.{List}
 use mathlib.Core.Path.{◌≡◌, refl, ap, ap₂, ◌∙◌, fun_ext}
-use Prim.Native.Nat.{ℕ, zero, suc, ◌+◌, max}
+use Prim.Native.Nat.{ℕ, ◌+◌, max}
 use native.Mathlib.Nat.{add-zero}
 use native.Mathlib.Omega.{arith}
-use lib.Bits.{bit_xor, xor_zero_r}
+use lib.Bits.{xor_zero_r}
 use lib.Count.{ones, ones_in}
 use lib.Dec.{leb}
 use lib.ListN.{length, get_or, set}
 use lib.Seq.{set-get_or}
 use Rattle.part.specs.declared.Geometry.{Geometry}
 use Rattle.part.proofs.Choice.{cond_keep}
-use Rattle.stretches.specs.Steps.{steps, ones_from, sum_from}
+use Rattle.stretches.specs.Steps.{ones_from, sum_from}
 use Rattle.stretches.proofs.Steps.{still}
 use Rattle.stretches.proofs.Zeros.{none_set}
 use Rattle.ecc.specs.Ecc.{sectors, data_at, data_long, spare_at, spare_long, marked, worst, eccs, turned_back, sector_turned, mended_sector, mended}

@@ -1,5 +1,6 @@
 // The ECC of a page: its sectors, their marked bits, what is mended and what ECCS says. Document 02, item 3.
 #![tactic(auto)]
+
 ghost use Rattle.std.specs.Prelude.{◌≡◌, ◌≤◌, ◌<◌, max, length, get_or};
 ghost use Rattle.part.specs.Part.{page, Sound};
 ghost use Rattle.ecc.specs.Ecc.{sectored, sectors, sector_at, marked, worst, eccs, sector_turned, mended_sector, mended};

@@ -1,5 +1,6 @@
 // A device state in the numbers of C: the structs of include/sleetanvil.h around it, and what its numbers stand for.
 #![tactic(auto)]
+
 ghost use Rattle.std.specs.Prelude.{◌≡◌};
 ghost use Rattle.part_numbers.specs.Numbers.{part_of};
 ghost use Rattle.face.specs.Face.{instruction_at, work_at, state_as, state_of, flag, faced, faced_job, face_of, sound_told, no_state, stand_in, handed_back};

@@ -1,8 +1,7 @@
 -- The laws of one adding and of one grant.
 use Rattle.std.specs.Prelude.{if◌then◌else◌}
 use mathlib.Core.Bool.{Bool, true, false, not}
-use mathlib.Core.List.{List, [], ◌∷◌, ◌++◌}
-use mathlib.Core.Logic.{◌↔◌}
+use mathlib.Core.List.{[], ◌∷◌}
 use mathlib.Core.Path.{◌≡◌, refl, sym, ap, subst, ◌∙◌}
 use Prim.Native.Nat.{ℕ, zero, suc, ◌+◌, ◌-◌, ◌%◌, ◌<◌, ◌≤◌}
 use native.Mathlib.Omega.{arith}
@@ -18,8 +17,8 @@ use Rattle.keeper.specs.declared.Refused.TheVariants.{Not, BadCore, QueueFull, A
 use Rattle.keeper.specs.declared.Added.{Added}
 use Rattle.keeper.specs.declared.Granted.{Granted}
 use Rattle.keeper.specs.declared.Turn.{Turn}
-use Rattle.keeper.specs.Keeper.{no_queue, queue_at, waiting, waiting_in, SoundQueue, SoundKeeper, keeper_sound, number_of, empty_queue, new_keeper, with_queue, put_of, added, add_of, front_of, rest_of, first_from, whose_turn, granted, taken_from, served, grant_of}
-use Rattle.keeper.specs.Promises.{AddLine, keeper_not_sound, core_above_3, eight_wait, has_room, AddExactly, GrantLine, all_empty, one_waits, GrantExactly, RefusedLeaves, Formed, Good, KeptSound, AtBack, AddsAtBack, InTurn, GrantsInTurn, NewKeeper}
+use Rattle.keeper.specs.Keeper.{no_queue, queue_at, waiting, waiting_in, SoundQueue, SoundKeeper, keeper_sound, number_of, empty_queue, new_keeper, with_queue, put_of, added, add_of, front_of, rest_of, whose_turn, granted, taken_from, served, grant_of}
+use Rattle.keeper.specs.Promises.{AddLine, keeper_not_sound, core_above_3, eight_wait, has_room, AddExactly, GrantLine, all_empty, one_waits, GrantExactly, RefusedLeaves, Good, KeptSound, AtBack, AddsAtBack, InTurn, GrantsInTurn, NewKeeper}
 use Rattle.keeper.proofs.Rings.{tags_length, none_wait, some_wait, front_leaves, put_back}
 use Rattle.keeper.proofs.Searches.{Found, at, none, finds}
 use Rattle.keeper.proofs.Sound.{sound_facts, sound_test}

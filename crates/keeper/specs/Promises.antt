@@ -1,5 +1,5 @@
 -- What is promised of one adding and of one grant. Of sequences of them: the crate `rounds`.
-use Rattle.std.specs.Prelude.{List, [], ◌∷◌, ◌++◌, ◌↔◌, ◌≡◌, ℕ, ◌+◌, ◌%◌, ◌<◌, ◌≤◌, T, length}
+use Rattle.std.specs.Prelude.{[], ◌∷◌, ◌++◌, ◌↔◌, ◌≡◌, ℕ, ◌+◌, ◌%◌, ◌<◌, ◌≤◌, T, length}
 use Rattle.keeper.specs.declared.Keeper.{Keeper}
 use Rattle.keeper.specs.declared.Granted.{Granted}
 use Rattle.keeper.specs.declared.Refused.TheVariants.{Not}

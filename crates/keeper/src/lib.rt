@@ -1,5 +1,6 @@
 // The keeper of the bus: four cores share one chip select, and each has a queue of transfers that wait. Document 02, item 9.
 #![tactic(auto)]
+
 ghost use Rattle.std.specs.Prelude.{◌≡◌, ◌<◌};
 ghost use Rattle.keeper.specs.Keeper.{queue_sound, keeper_sound, new_keeper, queue_at, with_queue, put_of, front_of, rest_of};
 ghost use Rattle.keeper.specs.Keeper.{number_of, added, add_of, granted, whose_turn, taken_from, grant_of};

@@ -1,6 +1,7 @@
 // The keeper in C: the functions of include/sleetanvil.h, "four cores at one chip select". A keeper is the same struct outside and inside,
 // and every content of it is answered; refusals are numbers outside.
 #![tactic(auto)]
+
 ghost use Rattle.std.specs.Prelude.{◌≡◌};
 ghost use Rattle.keeper.specs.Keeper.{new_keeper, add_of, grant_of};
 ghost use Rattle.keeper_face.specs.Face.{face_added, face_granted};

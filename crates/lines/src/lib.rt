@@ -1,5 +1,6 @@
 // The lines of the replay program, each written at the front of lent memory. Document 01, "The replay program".
 #![tactic(auto)]
+
 ghost use Rattle.std.specs.Prelude.{[], ◌∷◌, ◌++◌, ◌≡◌, ◌-◌, ◌<◌, length};
 ghost use Rattle.lines.specs.Lines.{digits, places, hex_digit, hex, letter_of, do_of, do_text, fields_of, line_of, word, end_of, laid, laid_of};
 

@@ -1,5 +1,6 @@
 // The model: a log run on a device, every input answered. Document 01, "Numbers of refusal".
 #![tactic(auto)]
+
 ghost use Rattle.std.specs.Prelude.{◌≡◌, length};
 ghost use Rattle.part.specs.Part.{Sound};
 ghost use Rattle.buslog.specs.Log.{bytes_of};

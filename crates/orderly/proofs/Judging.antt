@@ -11,7 +11,7 @@ use borrow.Author.Tests.{lt-ltb, le-ltb, ltb-true, ltb-false}
 use Rattle.part.specs.Part.{Sound}
 use Rattle.part.specs.declared.Geometry.{Geometry}
 use Rattle.part.proofs.Choice.{cond_keep}
-use Rattle.buslog.specs.Log.{written, Bytes}
+use Rattle.buslog.specs.Log.{Bytes}
 use Rattle.buslog.specs.Read.{found, front, next_of, parse}
 use Rattle.buslog.specs.Write.{over}
 use Rattle.buslog.specs.declared.Next.{Next}
@@ -28,7 +28,7 @@ use Rattle.kept.proofs.Steps.{step_keeps}
 use Rattle.refusals.specs.Refusals.{refusal_of, passed, checked_as}
 use Rattle.refusals.specs.declared.Refusal.{Refusal}
 use Rattle.refusals.specs.declared.Refusal.TheVariants.{NoRoom}
-use Rattle.walk.specs.Turns.{takes, puts, start_of, behind, answered, nothing, Turned, turned, state_after, turn_of}
+use Rattle.walk.specs.Turns.{takes, puts, start_of, behind, answered, Turned, turned, state_after, turn_of}
 use Rattle.walk.specs.declared.Walk.{Walk}
 use Rattle.walk.specs.declared.Went.{Went}
 use Rattle.walk.specs.declared.Went.TheVariants.{On, Off}

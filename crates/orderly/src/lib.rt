@@ -1,5 +1,6 @@
 // A log run and judged: the suppositions of demand 3, asked of each record as it comes, of the start and of the end.
 #![tactic(auto)]
+
 ghost use Rattle.std.specs.Prelude.{◌≡◌};
 ghost use Rattle.part.specs.Part.{Sound};
 ghost use Rattle.device.specs.Machine.{machine};

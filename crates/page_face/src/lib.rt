@@ -1,5 +1,6 @@
 // The parameter page in C: the functions of include/sleetanvil.h, "the parameter page". Plain numbers outside; every content is answered.
 #![tactic(auto)]
+
 ghost use Rattle.std.specs.Prelude.{◌≡◌};
 ghost use Rattle.part_numbers.specs.Numbers.{part_of};
 ghost use Rattle.crc.specs.Crc.{crc_of};

@@ -2,6 +2,7 @@
 // expected lines are printed by the independent model; none is copied from what this program printed. The head of the input says how a line
 // is written.
 #![tactic(auto)]
+
 ghost use Rattle.std.specs.Prelude.{◌≤◌};
 
 use copies::Found;

@@ -1,5 +1,6 @@
 // A part in the numbers of C: its struct of include/sleetanvil.h, what the numbers stand for, and the lengths that it asks for.
 #![tactic(auto)]
+
 ghost use Rattle.std.specs.Prelude.{◌≡◌};
 ghost use Rattle.part.specs.Part.{no_part};
 ghost use Rattle.part_numbers.specs.Numbers.{stepping_at, stepping_number, part_of, face_part, cells_length, cache_length, counts_length};

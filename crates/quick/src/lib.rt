@@ -1,5 +1,6 @@
 // The quick run: the contract of `model::run`, with the shifts that follow one another in a transfer done in one loop. The faces call it.
 #![tactic(auto)]
+
 ghost use Rattle.std.specs.Prelude.{◌≡◌, length};
 ghost use Rattle.part.specs.Part.{Sound};
 ghost use Rattle.buslog.specs.Read.{parse};

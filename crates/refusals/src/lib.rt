@@ -1,5 +1,6 @@
 // The numbers of refusal, and the checks that are made once, before any record. Document 01, "Numbers of refusal".
 #![tactic(auto)]
+
 ghost use Rattle.std.specs.Prelude.{◌≡◌};
 ghost use Rattle.refusals.specs.Refusals.{refusal_of, check_of, passed, number_of};
 

@@ -1,5 +1,6 @@
 // The registers A0h, B0h, C0h and D0h: read and written by address, and the bits of the status register. Document 01, "Registers".
 #![tactic(auto)]
+
 ghost use Rattle.std.specs.Prelude.{◌≡◌};
 ghost use Rattle.registers.specs.Registers.{oip, wel, oip_set, oip_cleared, wel_set, wel_cleared, request_cleared, e_fail_set, p_fail_set, reset_status, a0_mask, at_power_up, register, register_written, locked};
 

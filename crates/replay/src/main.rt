@@ -1,5 +1,6 @@
 // The replay program: a log on standard input, run on the bench part, one line a record. Document 01, "The replay program".
 #![tactic(auto)]
+
 ghost use Rattle.std.specs.Prelude.{◌≤◌, length};
 
 use buslog::{Next, Record};

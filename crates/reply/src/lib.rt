@@ -1,5 +1,6 @@
 // The byte on DO for a byte shifted on DI. Document 01, "Instructions".
 #![tactic(auto)]
+
 ghost use Rattle.std.specs.Prelude.{◌≡◌};
 ghost use Rattle.reply.specs.Reply.{byte_out};
 

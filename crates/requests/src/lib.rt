@@ -1,5 +1,6 @@
 // A request to program a page or to erase a block: what becomes of it, and the page counts. Document 01, "Instructions", 10h and D8h.
 #![tactic(auto)]
+
 ghost use Rattle.std.specs.Prelude.{◌≡◌, ℕ, ◌<◌, min};
 ghost use Rattle.requests.specs.Requests.{begins?, used_of, program_fate, erase_fate, counted, uncounted, counts_after};
 

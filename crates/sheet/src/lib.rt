@@ -1,5 +1,6 @@
 // The parameter page of a part, and its maker. Document 02, item 1; the datasheet's section 10.
 #![tactic(auto)]
+
 ghost use Rattle.std.specs.Prelude.{◌≡◌, length};
 ghost use Rattle.sheet.specs.Numbers.{low_first};
 ghost use Rattle.sheet.specs.Sheet.{sheet_of, unnumbered};

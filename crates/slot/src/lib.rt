@@ -1,5 +1,6 @@
 // The card slot: a card log run on a card, every input answered. Document 02, item 5.
 #![tactic(auto)]
+
 ghost use Rattle.std.specs.Prelude.{◌≡◌, ◌+◌, ◌≤◌, length};
 ghost use Rattle.buslog.specs.Write.{over};
 ghost use Rattle.cardlog.specs.Log.{bytes_of};

@@ -1,5 +1,6 @@
 // The parts of a sound state, each over what it speaks of. Document 01, "Numbers of refusal".
 #![tactic(auto)]
+
 ghost use Rattle.std.specs.Prelude.{◌≡◌, ltb};
 ghost use Rattle.array.specs.Jobs.{length_of};
 ghost use Rattle.soundness.specs.Soundness.{registers_sound, transfer_sound, work_sound, in_array, calm};

@@ -2,7 +2,7 @@
 use mathlib.Core.Bool.{Bool, true, false}
 use mathlib.Core.List.{List, []}
 use mathlib.Core.Path.{◌≡◌, refl, sym, ap, ap₂, subst, ◌∙◌}
-use Prim.Native.Nat.{ℕ, zero, suc, ◌+◌, ◌*◌, ◌≤◌, ◌<◌}
+use Prim.Native.Nat.{ℕ, zero, suc, ◌+◌, ◌*◌, ◌<◌}
 use native.Mathlib.Numerals.{add-one}
 use native.Mathlib.Omega.{arith}
 use lib.Dec.{ltb}
@@ -13,7 +13,7 @@ use Rattle.part.specs.declared.Geometry.{Geometry}
 use Rattle.device.specs.Machine.{Machine, machine, on_cache}
 use Rattle.device.specs.Instructions.{answer, shifts}
 use Rattle.device.specs.declared.State.{State}
-use Rattle.stream.specs.Streams.{ShiftAt, byte_in, Shifted, none, more, Follows, streams, Streamed}
+use Rattle.stream.specs.Streams.{byte_in, Shifted, none, more, Follows, streams, Streamed}
 use Rattle.stream.specs.declared.Stream.{Stream}
 use Rattle.stream.proofs.streams.Reads as streams-reads
 use Rattle.stream.proofs.streams.Kinds as streams-kinds

@@ -1,6 +1,7 @@
 // A stream of shifts: once the fifth byte of a transfer has come, only the next column moves on, and data is read or loaded. Document 01,
 // "Instructions".
 #![tactic(auto)]
+
 ghost use Rattle.std.specs.Prelude.{true, ◌≡◌, ◌/◌, ◌≤◌, ◌<◌, min, length};
 ghost use Rattle.columns.specs.Columns.{next_read};
 ghost use Rattle.transfer.specs.Transfer.{is};

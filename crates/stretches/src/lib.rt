@@ -1,5 +1,6 @@
 // Stretches of bytes: the units of a read, a program and an erase on them, one loop each, and marked bits counted and turned back.
 #![tactic(auto)]
+
 ghost use Rattle.std.specs.Prelude.{◌≡◌, ◌-◌, ◌*◌, ◌≤◌, ◌<◌, eqb, length, get_or, set};
 ghost use Rattle.std.specs.Int.Bits.{bit_and, bit_xor};
 ghost use Rattle.stretches.specs.Steps.{steps, ones_from, sum_from};

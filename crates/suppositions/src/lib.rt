@@ -1,5 +1,6 @@
 // The suppositions of demand 3 as tests: whether a log may start in a state, whether a record may come in it, whether the array is idle.
 #![tactic(auto)]
+
 ghost use Rattle.std.specs.Prelude.{◌&&◌, ◌||◌, ◌≡◌};
 ghost use Rattle.whole.specs.Orderly.{idle, first, unknown, resetting, allowed, first_read, up_registers, up_transfer, power_up?, starts};
 

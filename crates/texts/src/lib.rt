@@ -1,5 +1,6 @@
 // The texts of the refusals: one table of bytes, and how a text is put into lent memory.
 #![tactic(auto)]
+
 ghost use Rattle.std.specs.Prelude.{true, not, ◌&&◌, ◌≡◌, ◌≤◌, eqb, length, drop, get_or};
 ghost use Rattle.texts.specs.Text.{text_of, up_to_nul, behind_number, face_laid, text_laid};
 

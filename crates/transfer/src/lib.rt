@@ -1,5 +1,6 @@
 // A transfer on the bus: chip select, the bytes shifted in, and what they do to the cache register. Document 01, "Instructions".
 #![tactic(auto)]
+
 ghost use Rattle.std.specs.Prelude.{◌≡◌};
 ghost use Rattle.transfer.specs.Transfer.{is, full, fresh, selects, ends, row_of, column_bytes, column_on, column_after, instructed, later, heard, shifted_in, body_heard, stored, cached};
 

@@ -1,6 +1,7 @@
 // A table of calls on the proved keeper: each line of the input is a case, and a line is printed for it. The expected lines were worked
 // out by hand; none is copied from what this program printed. The head of the input says how a line is written.
 #![tactic(auto)]
+
 use keeper::{Keeper, Queue};
 
 // The standard output.

@@ -1,6 +1,7 @@
 // Many logs run on the proved model: each line of the input is a vector, and a line is printed for it. The expected lines were worked
 // out from document 01 by an independent model; none is copied from what this program printed.
 #![tactic(auto)]
+
 ghost use Rattle.std.specs.Prelude.{◌≤◌, length};
 ghost use Rattle.io.specs.Counts.{IsPrefixLen};
 

@@ -1,5 +1,6 @@
 // A run, record by record: where it stands, and one turn of it. Document 01, "Numbers of refusal", 6 to 9 at each record.
 #![tactic(auto)]
+
 ghost use Rattle.std.specs.Prelude.{◌≡◌, ◌+◌, ◌≤◌, length};
 ghost use Rattle.part.specs.Part.{Sound};
 ghost use Rattle.buslog.specs.Read.{next_of};

@@ -1,6 +1,5 @@
 -- The start: the power-up state exactly, and the whole run's beginning is the unitwise one's with its operation worked to its end.
 use mathlib.Core.Bool.{Bool, false, not, ◌&&◌}
-use mathlib.Core.List.{List}
 use mathlib.Core.Path.{◌≡◌, refl, ap, subst⁻¹}
 use Prim.Native.Nat.{ℕ, ◌-◌}
 use native.Mathlib.Omega.{arith}

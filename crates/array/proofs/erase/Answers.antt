@@ -1,11 +1,9 @@
 -- `erase`: the block's own stretch, erased and laid back.
 use Prim.Native.Nat.{◌+◌, ◌-◌, ◌*◌}
 use native.Mathlib.Omega.{arith}
-use lib.ListN.{length-take, length-drop}
-use borrow.Author.Rules.{rules}
 use Rattle.part.specs.Part.{page}
 use Rattle.array.specs.Jobs.{block_at}
-use Rattle.array.proofs.Room.{block_in, block_small}
+use Rattle.array.proofs.Room.{block_in}
 use Rattle.array.proofs.Stores.{erase_in}
 use Rattle.array.proofs.erase.Goals as goal
 

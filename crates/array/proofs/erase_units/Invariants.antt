@@ -1,8 +1,6 @@
 -- `erase_units`: at unit i, going on ends where going from the first unit ends. The measure is the units left.
 use Prim.Native.Nat.{◌-◌}
-use native.Mathlib.Omega.{arith}
-use borrow.Author.Rules.{rules}
-use Rattle.array.proofs.Loop.{Running, begun, moved, ended}
+use Rattle.array.proofs.Loop.{Running}
 use Rattle.array.proofs.erase_units.Given as goal
 
 abbrev pub invariant-loop-i : goal.invariant-loop-i

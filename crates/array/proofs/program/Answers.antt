@@ -1,7 +1,6 @@
 -- `program`: the page's own stretch, programmed and laid back.
 use Prim.Native.Nat.{◌+◌, ◌-◌}
 use native.Mathlib.Omega.{arith}
-use borrow.Author.Rules.{rules}
 use Rattle.part.specs.Part.{page}
 use Rattle.array.specs.Jobs.{page_at}
 use Rattle.array.proofs.Room.{page_in}

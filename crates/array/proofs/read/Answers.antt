@@ -1,7 +1,6 @@
 -- `read`: a row in the array fills the cache from its page, a row outside it with FFh.
 use Prim.Native.Nat.{◌+◌, ◌-◌}
 use native.Mathlib.Omega.{arith}
-use borrow.Author.Rules.{rules}
 use Rattle.part.specs.Part.{page}
 use Rattle.array.specs.Jobs.{page_at}
 use Rattle.array.proofs.Room.{page_in}

@@ -1,9 +1,5 @@
 -- `read_units`: at unit i, going on ends where going from the first unit ends. The measure is the units left.
-use Prim.Native.Nat.{◌-◌}
-use native.Mathlib.Omega.{arith}
-use lib.ListN.{get_or}
-use borrow.Author.Rules.{rules}
-use Rattle.array.proofs.Loop.{Running, begun, moved, ended}
+use Rattle.array.proofs.Loop.{moved, ended}
 use Rattle.array.proofs.read_units.Goals as goal
 
 pub loop-i-preserved : goal.loop-i-preserved

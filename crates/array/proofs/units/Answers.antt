@@ -1,7 +1,6 @@
 -- `units`: each operation by its own function; a reset's units by none.
 use mathlib.Core.Path.{sym}
 use Prim.Native.Nat.{◌-◌}
-use borrow.Author.Rules.{rules}
 use Rattle.array.specs.Jobs.{store}
 use Rattle.array.proofs.Stores.{restart_none}
 use Rattle.array.proofs.units.Goals as goal

@@ -1,5 +1,4 @@
 -- Blank memory: the checks, and then three fills.
-use borrow.Author.Rules.{rules}
 use Rattle.refusals.proofs.Checked.{passed_no, passed_yes}
 use Rattle.beside.proofs.BlankMemory.{blank_refused, blank_done}
 use Rattle.beside.proofs.blank.Goals as goal

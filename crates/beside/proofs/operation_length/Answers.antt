@@ -1,7 +1,6 @@
 -- The units of an operation on a sound part, and 0 on one that is not.
-use borrow.Author.Rules.{rules}
 use Rattle.part.specs.Part.{sound_part}
-use Rattle.beside.proofs.Asked.{part_sound, asked_no, asked_yes}
+use Rattle.beside.proofs.Asked.{part_sound, asked_yes}
 use Rattle.beside.proofs.operation_length.Goals as goal
 
 pub length_of-requires : goal.length_of-requires

@@ -1,7 +1,6 @@
 -- The next byte: a part that is not sound, what the checks refuse, and else the byte on DO.
 use native.Mathlib.Omega.{arith}
 use native.Mathlib.Nat.{mul-le-mul}
-use borrow.Author.Rules.{rules}
 use Rattle.part.specs.Part.{sound_part, Sound}
 use Rattle.refusals.proofs.Checked.{passed_no, passed_yes}
 use Rattle.beside.proofs.Asked.{part_sound, asked_no, asked_yes}

@@ -1,6 +1,5 @@
 -- The units left: of the operation in progress, if part and state are sound, and 0 otherwise.
 use native.Mathlib.Omega.{arith}
-use borrow.Author.Rules.{rules}
 use Rattle.part.specs.Part.{sound_part}
 use Rattle.array.specs.declared.Work.TheVariants.{Idle}
 use Rattle.device.specs.Sound.{sound_state}

@@ -1,5 +1,4 @@
 -- Work of any number of units: the checks, and then the units.
-use borrow.Author.Rules.{rules}
 use Rattle.device.specs.Machine.{machine}
 use Rattle.refusals.proofs.Checked.{sound_as, passed_no, passed_yes}
 use Rattle.walk.proofs.Turns.{work_ready}

@@ -1,7 +1,5 @@
 -- A command's answer: one byte at its place, and the protect bit behind it where that is read too.
 use native.Mathlib.Omega.{arith}
-use lib.ListN.{length-set}
-use borrow.Author.Rules.{rules}
 use Rattle.buslog.proofs.RoundTrip.{over_one}
 use Rattle.card.proofs.Stored.{over_two}
 use Rattle.card.proofs.answer.Goals as goal

@@ -1,5 +1,4 @@
 -- One command done: each of the seven, and what is none of them.
-use borrow.Author.Rules.{rules}
 use Rattle.card.specs.Card.{commanded}
 use Rattle.card.proofs.perform.Goals as goal
 

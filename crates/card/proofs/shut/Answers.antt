@@ -1,5 +1,4 @@
 -- The protect bit of an address made 0: its byte without that bit.
-use borrow.Author.Rules.{rules}
 use Rattle.card.specs.Card.{shut}
 use Rattle.card.proofs.shut.Goals as goal
 

@@ -1,7 +1,6 @@
 -- One command in C: as a run of its bytes.
 use mathlib.Core.Path.{ap}
 use borrow.Author.Tests.{le-leb, lt-leb}
-use borrow.Author.Rules.{rules}
 use Rattle.card_face.specs.Face.{face_run, face_end}
 use Rattle.card_face.proofs.sleet_card_command.Goals as goal
 

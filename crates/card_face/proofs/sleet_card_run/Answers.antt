@@ -1,7 +1,6 @@
 -- A run in C: a number that is no stage is refused; else the run of the slot.
 use mathlib.Core.Path.{ap}
 use borrow.Author.Tests.{le-leb, lt-leb}
-use borrow.Author.Rules.{rules}
 use Rattle.card_face.specs.Face.{face_run, face_end}
 use Rattle.card_face.proofs.sleet_card_run.Goals as goal
 

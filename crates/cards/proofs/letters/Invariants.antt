@@ -1,9 +1,7 @@
 -- `letters` is safe and ends: its place stays within the slice, what is left of the slice falls, and the memory keeps its lengths.
 use mathlib.Core.Path.{◌≡◌}
 use Prim.Native.Nat.{◌≤◌, ◌-◌}
-use native.Mathlib.Omega.{arith}
 use lib.ListN.{length}
-use borrow.Author.Rules.{rules}
 use Rattle.cards.proofs.letters.Given as goal
 
 abbrev pub invariant-loop-i : goal.invariant-loop-i

@@ -1,6 +1,5 @@
 -- The check that stands in a copy, and that of its other bytes.
 use Rattle.copies.specs.Copies.{checked}
-use borrow.Author.Rules.{rules}
 use Rattle.copies.proofs.checked.Goals as goal
 
 pub returns : goal.returns

@@ -2,7 +2,7 @@
 use Prim.Native.Nat.{◌-◌}
 use native.Mathlib.Omega.{arith}
 use lib.ListN.{length}
-use Rattle.copies.proofs.Values.{Reading, none_read, one_read, all_read, three_bytes}
+use Rattle.copies.proofs.Values.{none_read, one_read, three_bytes}
 use Rattle.copies.proofs.number.Goals as goal
 
 pub loop-i-init : goal.loop-i-init

@@ -1,7 +1,6 @@
 -- The three copies, one after the other.
 use borrow.Author.Tests.{lt-ltb, le-ltb}
 use Rattle.copies.specs.Copies.{read_of}
-use borrow.Author.Rules.{rules}
 use Rattle.copies.proofs.read.Goals as goal
 
 pub returns-then-memory-lt768 : goal.returns-then-memory-lt768

@@ -1,7 +1,6 @@
 -- The four bytes of the signature, one after the other.
 use borrow.Author.Tests.{ne_eqb}
 use Rattle.copies.specs.Copies.{signed}
-use borrow.Author.Rules.{rules}
 use Rattle.copies.proofs.signed.Goals as goal
 
 pub returns-then-page-ne79 : goal.returns-then-page-ne79

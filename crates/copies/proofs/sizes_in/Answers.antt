@@ -1,7 +1,6 @@
 -- The four numbers of a copy. Two bytes are below 65,536.
 use native.Mathlib.Omega.{arith}
 use Rattle.copies.proofs.Values.{short_whole}
-use borrow.Author.Rules.{rules}
 use Rattle.copies.proofs.sizes_in.Goals as goal
 
 pub returns : goal.returns

@@ -1,9 +1,6 @@
 -- The bytes, two by two. The loop's invariant: what is left, fed to the check so far, gives the check of all.
-use mathlib.Core.Path.{◌≡◌, refl, sym, ◌∙◌}
-use Prim.Native.Nat.{◌-◌, ◌≤◌}
+use mathlib.Core.Path.{sym, ◌∙◌}
 use native.Mathlib.Omega.{arith}
-use lib.ListN.{length, drop}
-use Rattle.crc.specs.Crc.{all_fed, crc_of}
 use Rattle.crc.proofs.Linear.{two_on, last_on, all_end}
 use Rattle.crc.proofs.along.Goals as goal
 

@@ -2,7 +2,6 @@
 use mathlib.Core.Path.{◌∙◌}
 use native.Mathlib.Omega.{arith}
 use Rattle.crc.proofs.Linear.{data_added}
-use borrow.Author.Rules.{rules}
 use Rattle.crc.proofs.one_more.Goals as goal
 
 pub returns : goal.returns

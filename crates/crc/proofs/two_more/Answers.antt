@@ -1,7 +1,6 @@
 -- Two bytes are added to all 16 bits, and they go out.
 use native.Mathlib.Omega.{arith}
 use Rattle.crc.proofs.Linear.{both_added}
-use borrow.Author.Rules.{rules}
 use Rattle.crc.proofs.two_more.Goals as goal
 
 pub returns : goal.returns

@@ -3,9 +3,6 @@ use mathlib.Core.Path.{sym, ◌∙◌}
 use lib.ListN.{get_or}
 use borrow.Author.Tests.{eqb-true}
 use Rattle.ecc.proofs.Unmarked.{zeros_unmarked, zeros_mended}
-use borrow.Author.Rules.{rules}
-use Rattle.ecc.proofs.mend_all.Reads as mend-all-reads
-use Rattle.stretches.proofs.all_zero.Reads as all-zero-reads
 use Rattle.ecc.proofs.mend.Goals as goal
 
 pub returns-then-all_zero : goal.returns-then-all_zero

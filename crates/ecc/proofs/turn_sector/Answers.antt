@@ -1,8 +1,6 @@
 -- `turn_sector`: its two stretches, one after the other.
-use native.Mathlib.Omega.{arith}
-use borrow.Author.Rules.{rules}
 use Rattle.ecc.specs.Ecc.{sector_turned, data_at, data_long, spare_at, spare_long}
-use Rattle.ecc.proofs.Within.{sector_ends, long}
+use Rattle.ecc.proofs.Within.{long}
 use Rattle.ecc.proofs.turn_sector.Goals as goal
 
 pub returns : goal.returns

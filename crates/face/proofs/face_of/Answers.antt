@@ -1,5 +1,4 @@
 -- The numbers of a state, idle or busy.
-use borrow.Author.Rules.{rules}
 use Rattle.face.specs.Face.{face_of}
 use Rattle.face.proofs.face_of.Goals as goal
 

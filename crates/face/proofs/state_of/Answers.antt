@@ -1,6 +1,5 @@
 -- The state that numbers stand for: the instruction, the operation, and then the flags.
 use native.Mathlib.Omega.{arith}
-use borrow.Author.Rules.{rules}
 use borrow.Author.Tests.{le-leb, lt-leb}
 use Rattle.face.specs.Face.{state_of}
 use Rattle.face.proofs.state_of.Goals as goal

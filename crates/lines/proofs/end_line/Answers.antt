@@ -3,7 +3,6 @@ use native.Mathlib.Omega.{arith}
 use mathlib.Core.Path.{◌≡◌, ◌∙◌, ap}
 use Rattle.lines.specs.Lines.{places, end_of}
 use Rattle.lines.proofs.Laid.{places_most, length_end, short, end_laid}
-use borrow.Author.Rules.{rules}
 use Rattle.lines.proofs.end_line.Goals as goal
 
 pub overflow_add-k : goal.overflow_add-k

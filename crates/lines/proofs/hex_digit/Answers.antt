@@ -1,7 +1,6 @@
 -- The test d < 10 is the definition's own.
 use borrow.Author.Tests.{lt-ltb, le-ltb}
 use Rattle.lines.specs.Lines.{hex_digit}
-use borrow.Author.Rules.{rules}
 use Rattle.lines.proofs.hex_digit.Goals as goal
 
 pub returns-then-d-lt10 : goal.returns-then-d-lt10

@@ -1,6 +1,5 @@
 -- The two digits, each by its call.
 use Rattle.lines.specs.Lines.{hex}
-use borrow.Author.Rules.{rules}
 use Rattle.lines.proofs.hex_pair.Goals as goal
 
 pub returns : goal.returns

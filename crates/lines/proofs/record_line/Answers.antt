@@ -3,7 +3,6 @@ use native.Mathlib.Omega.{arith}
 use mathlib.Core.Path.{◌∙◌}
 use Rattle.lines.specs.Lines.{do_of, line_of}
 use Rattle.lines.proofs.Laid.{places_most, length_line, short, line_laid}
-use borrow.Author.Rules.{rules}
 use Rattle.lines.proofs.record_line.Goals as goal
 
 pub overflow_add-k : goal.overflow_add-k

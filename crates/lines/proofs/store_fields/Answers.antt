@@ -1,11 +1,8 @@
 -- Eight stores, one behind another.
 use mathlib.Core.List.{[], ◌∷◌}
 use mathlib.Core.Path.{◌∙◌}
-use native.Mathlib.Omega.{arith}
-use lib.ListN.{length-set}
 use Rattle.lines.specs.Lines.{fields_of}
 use Rattle.lines.proofs.Texts.{sets_all}
-use borrow.Author.Rules.{rules}
 use Rattle.lines.proofs.store_fields.Goals as goal
 
 pub returns : goal.returns

@@ -1,11 +1,10 @@
 -- From the last place down: the digits that are left, and what stands behind them, are the text.
-use mathlib.Core.List.{[], ◌∷◌, ◌++◌}
-use mathlib.Core.Path.{◌≡◌, refl, ap, ◌∙◌}
-use Prim.Native.Nat.{ℕ, ◌+◌, ◌<◌, ◌-◌}
+use mathlib.Core.Path.{◌≡◌, ap, ◌∙◌}
+use Prim.Native.Nat.{ℕ, ◌+◌}
 use native.Mathlib.Omega.{arith}
-use lib.ListN.{length, drop, length-set}
+use lib.ListN.{length-set}
 use Rattle.lines.specs.Lines.{digits}
-use Rattle.lines.proofs.Texts.{drop_last, digits_more}
+use Rattle.lines.proofs.Texts.{digits_more}
 use Rattle.lines.proofs.store_number.Goals as goal
 
 pub loop-i-preserved : goal.loop-i-preserved

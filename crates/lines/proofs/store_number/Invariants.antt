@@ -1,11 +1,9 @@
 -- From the last place down: the digits that are left, and what stands behind them, are the text.
 use mathlib.Core.List.{[], ◌∷◌, ◌++◌}
-use mathlib.Core.Path.{◌≡◌, refl, ap, ◌∙◌}
-use Prim.Native.Nat.{ℕ, ◌+◌, ◌<◌, ◌-◌}
-use native.Mathlib.Omega.{arith}
-use lib.ListN.{length, drop, length-set}
+use mathlib.Core.Path.{◌≡◌}
+use Prim.Native.Nat.{◌<◌, ◌-◌}
+use lib.ListN.{length, drop}
 use Rattle.lines.specs.Lines.{digits}
-use Rattle.lines.proofs.Texts.{drop_last, digits_more}
 use Rattle.lines.proofs.store_number.Given as goal
 
 abbrev pub invariant-loop-i : goal.invariant-loop-i

@@ -1,13 +1,7 @@
 -- The loop over the log: each turn keeps `Going`, and the way out is the end of the whole run.
-use mathlib.Core.Path.{sym, ◌∙◌}
-use Prim.Native.Nat.{◌-◌}
 use native.Mathlib.Omega.{arith}
-use borrow.Author.Rules.{rules}
-use lib.ListN.{length}
-use Rattle.device.specs.Machine.{machine}
-use Rattle.device.specs.Work.{unitwise}
 use Rattle.kept.proofs.Steps.{step_keeps}
-use Rattle.model.proofs.Loop.{Going, going_start, out_long, stands, going_on, going_off}
+use Rattle.model.proofs.Loop.{going_on, going_off}
 use Rattle.model.proofs.go.Goals as goal
 
 pub loop-next-smaller : goal.loop-next-smaller

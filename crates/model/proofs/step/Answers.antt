@@ -2,10 +2,8 @@
 use mathlib.Core.Path.{sym, ◌∙◌}
 use native.Mathlib.Omega.{arith}
 use borrow.Author.Tests.{not-true, not-false}
-use borrow.Author.Rules.{rules}
 use Rattle.refusals.proofs.Checked.{sound_as, passed_no, passed_yes}
 use Rattle.model.proofs.Single.{run_refused, step_bad, step_full, step_done}
-use borrow.Author.Rules.{rules}
 use Rattle.model.proofs.step.Goals as goal
 
 pub returns-then-not-passes : goal.returns-then-not-passes

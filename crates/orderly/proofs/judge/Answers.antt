@@ -1,7 +1,6 @@
 -- The checks, and then the loop.
 use Rattle.refusals.proofs.Checked.{sound_as, passed_no, passed_yes}
 use Rattle.orderly.proofs.Judging.{judged_none}
-use borrow.Author.Rules.{rules}
 use Rattle.orderly.proofs.judge.Goals as goal
 
 pub returns-then-not-passes : goal.returns-then-not-passes

@@ -1,7 +1,5 @@
 -- `bytes` is safe and ends: its place stays within the slice, and what is left of the slice falls.
 use Prim.Native.Nat.{◌≤◌, ◌-◌}
-use native.Mathlib.Omega.{arith}
-use borrow.Author.Rules.{rules}
 use lib.ListN.{length}
 use Rattle.pages.proofs.bytes.Given as goal
 

@@ -1,7 +1,6 @@
 -- `letters` is safe and ends: its place stays within the slice, what is left of the slice falls, and the memory keeps its length.
 use mathlib.Core.Path.{◌≡◌}
 use Prim.Native.Nat.{◌≤◌, ◌-◌}
-use borrow.Author.Rules.{rules}
 use lib.ListN.{length}
 use Rattle.pages.proofs.letters.Given as goal
 

@@ -1,11 +1,8 @@
 -- Lent memory filled: up to i it is the byte, from i on as it was.
-use Prim.Native.Nat.{◌≤◌, ◌<◌, ◌-◌}
-use native.Mathlib.Omega.{arith}
-use borrow.Author.Fill.{fill_more}
-use mathlib.Core.Path.{◌≡◌, refl, ◌∙◌}
-use mathlib.Core.List.{◌++◌, append-nil}
-use lib.ListN.{length, replicate, drop, length-set}
-use lib.Seq.{drop-length}
+use Prim.Native.Nat.{◌≤◌, ◌-◌}
+use mathlib.Core.Path.{◌≡◌}
+use mathlib.Core.List.{◌++◌}
+use lib.ListN.{length, replicate, drop}
 use Rattle.part.proofs.fill.Given as goal
 
 abbrev pub invariant-loop-i : goal.invariant-loop-i

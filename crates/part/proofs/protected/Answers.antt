@@ -1,5 +1,4 @@
 -- A number that no block has; and else what BP and INV pick, or the rest.
-use borrow.Author.Rules.{rules}
 use borrow.Author.Tests.{le-ltb, lt-ltb}
 use Rattle.part.specs.Protection.{protects}
 use Rattle.part.proofs.protected.Goals as goal

@@ -1,15 +1,10 @@
 -- The loop over the log: each turn and the stream behind it keep `Going`, and each way out is the end of the whole run.
-use mathlib.Core.Path.{sym, ◌∙◌}
 use Prim.Native.Nat.{◌-◌}
-use native.Mathlib.Omega.{arith}
-use borrow.Author.Rules.{rules}
 use lib.ListN.{length}
 use Rattle.device.specs.Machine.{machine}
 use Rattle.device.specs.Work.{unitwise}
-use Rattle.kept.proofs.Steps.{step_keeps}
-use Rattle.model.proofs.Loop.{Going, going_start, going_ends, going_full, out_long, stands}
+use Rattle.model.proofs.Loop.{Going}
 use Rattle.quick.specs.Along.{walk_at}
-use Rattle.quick.proofs.Behind.{going_turn, going_along}
 use Rattle.quick.proofs.go.Given as goal
 
 abbrev pub invariant-loop-why : goal.invariant-loop-why

@@ -1,8 +1,6 @@
 -- The checks, and then the loop.
-use borrow.Author.Rules.{rules}
 use Rattle.refusals.proofs.Checked.{sound_as, passed_no, passed_yes}
 use Rattle.model.proofs.Single.{run_refused, run_ran}
-use borrow.Author.Rules.{rules}
 use Rattle.quick.proofs.run.Goals as goal
 
 pub returns-then-not-passes : goal.returns-then-not-passes

@@ -7,7 +7,6 @@ use Rattle.part.specs.Part.{Sound}
 use Rattle.part.proofs.Laws.{sound_exactly}
 use Rattle.part.proofs.Choice.{true_T}
 use Rattle.refusals.specs.Refusals.{check_of}
-use borrow.Author.Rules.{rules}
 use Rattle.refusals.proofs.check.Goals as goal
 
 pub returns-then-not-sound : goal.returns-then-not-sound

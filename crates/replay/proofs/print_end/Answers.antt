@@ -3,7 +3,6 @@ use mathlib.Core.Path.{sym}
 use native.Mathlib.Omega.{arith}
 use lib.Seq.{length-take-le}
 use Rattle.lines.proofs.Laid.{laid_within}
-use borrow.Author.Rules.{rules}
 use Rattle.replay.proofs.print_end.Goals as goal
 
 pub slice_bounds-text-end : goal.slice_bounds-text-end

@@ -1,9 +1,6 @@
 -- The place stays within the log and goes on with each record; no more records are done than bytes are passed.
-use mathlib.Core.Path.{◌≡◌, refl, ◌∙◌}
-use Prim.Native.Nat.{◌-◌, ◌≤◌}
+use mathlib.Core.Path.{◌∙◌}
 use native.Mathlib.Omega.{arith}
-use borrow.Author.Rules.{rules}
-use lib.ListN.{length}
 use Rattle.replay.proofs.Places.{met_further}
 use Rattle.replay.proofs.replay.Goals as goal
 

@@ -1,10 +1,7 @@
 -- The place stays within the log and goes on with each record; no more records are done than bytes are passed.
-use mathlib.Core.Path.{◌≡◌, refl, ◌∙◌}
+use mathlib.Core.Path.{◌≡◌}
 use Prim.Native.Nat.{◌-◌, ◌≤◌}
-use native.Mathlib.Omega.{arith}
-use borrow.Author.Rules.{rules}
 use lib.ListN.{length}
-use Rattle.replay.proofs.Places.{met_further}
 use Rattle.replay.proofs.replay.Given as goal
 
 abbrev pub invariant-loop-cells : goal.invariant-loop-cells

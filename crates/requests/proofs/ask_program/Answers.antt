@@ -1,10 +1,9 @@
 -- A program asked for: its fate, and the page's count where it begins, which is then below 4.
 use mathlib.Core.Bool.{true}
 use mathlib.Core.Path.{◌≡◌, sym, ap, ◌∙◌}
-use borrow.Author.Tests.{not-true, not-false}
+use borrow.Author.Tests.{not-false}
 use Rattle.requests.specs.Requests.{begins?, program_fate}
 use Rattle.requests.proofs.Fates.{program_begins}
-use borrow.Author.Rules.{rules}
 use Rattle.requests.proofs.ask_program.Goals as goal
 
 pub count_up-requires : goal.count_up-requires

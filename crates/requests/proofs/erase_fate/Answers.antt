@@ -2,7 +2,6 @@
 use borrow.Author.Tests.{le-ltb, lt-ltb}
 use Rattle.requests.specs.Requests.{erase_fate}
 use native.Mathlib.Omega.{arith}
-use borrow.Author.Rules.{rules}
 use Rattle.requests.proofs.erase_fate.Goals as goal
 
 pub returns-then-rows-wide_short : goal.returns-then-rows-wide_short

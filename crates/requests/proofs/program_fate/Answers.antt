@@ -2,7 +2,6 @@
 use borrow.Author.Tests.{le-leb, lt-leb, not-true, not-false}
 use Rattle.requests.proofs.Fates.{program_fate_lem}
 use native.Mathlib.Omega.{arith}
-use borrow.Author.Rules.{rules}
 use Rattle.requests.proofs.program_fate.Goals as goal
 
 pub returns-then-not-begins : goal.returns-then-not-begins

@@ -1,9 +1,7 @@
 -- One stretch copied into another, byte by byte.
 use Prim.Native.Nat.{◌-◌}
-use mathlib.Core.Path.{refl}
-use native.Mathlib.Omega.{arith}
 use lib.ListN.{length}
-use Rattle.sheet.proofs.Writing.{Written, none_written, one_written, all_written}
+use Rattle.sheet.proofs.Writing.{Written}
 use Rattle.sheet.proofs.copy.Given as goal
 
 abbrev pub invariant-loop-i : goal.invariant-loop-i

@@ -2,7 +2,6 @@
 use lib.ListN.{drop, length-drop}
 use Rattle.sheet.specs.Page.{page_of}
 use Rattle.sheet.proofs.Pages.{page-laid}
-use borrow.Author.Rules.{rules}
 use Rattle.sheet.proofs.lay_page.Goals as goal
 
 pub returns : goal.returns

@@ -2,7 +2,6 @@
 use Rattle.texts.specs.Text.{bytes as characters}
 use Rattle.sheet.specs.Numbers.{low_first}
 use Rattle.sheet.specs.Sheet.{bytes_in, sheet, laid, unnumbered}
-use borrow.Author.Rules.{rules}
 use Rattle.sheet.proofs.lay_table.Goals as goal
 
 pub returns : goal.returns

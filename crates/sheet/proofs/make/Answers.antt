@@ -1,7 +1,6 @@
 -- The maker: the part is asked first, then the room, and then the page is laid.
 use borrow.Author.Tests.{not-true, not-false, lt-ltb, le-ltb}
 use Rattle.sheet.specs.Page.{make_of}
-use borrow.Author.Rules.{rules}
 use Rattle.sheet.proofs.make.Goals as goal
 
 pub returns-then-not-sound : goal.returns-then-not-sound

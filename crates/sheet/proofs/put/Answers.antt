@@ -1,11 +1,11 @@
 -- A number's bytes written low byte first. The invariant: the bytes that are not written are those of what is left of the number.
-use mathlib.Core.Path.{◌≡◌, refl, sym}
-use Prim.Native.Nat.{◌-◌, ◌%◌, ◌≤◌, ◌<◌}
+use mathlib.Core.Path.{refl, sym}
+use Prim.Native.Nat.{◌%◌, ◌<◌}
 use native.Mathlib.Nat.{sub-zero}
 use native.Mathlib.Omega.{arith}
-use lib.ListN.{length, drop}
+use lib.ListN.{length}
 use Rattle.sheet.specs.Numbers.{low_first}
-use Rattle.sheet.proofs.Writing.{Written, none_written, one_written, all_written, low_length, next_byte, next_rest}
+use Rattle.sheet.proofs.Writing.{none_written, one_written, low_length, next_byte, next_rest}
 use Rattle.sheet.proofs.put.Goals as goal
 
 pub loop-i-init : goal.loop-i-init

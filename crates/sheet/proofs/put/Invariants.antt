@@ -1,11 +1,9 @@
 -- A number's bytes written low byte first. The invariant: the bytes that are not written are those of what is left of the number.
-use mathlib.Core.Path.{◌≡◌, refl, sym}
-use Prim.Native.Nat.{◌-◌, ◌%◌, ◌≤◌, ◌<◌}
-use native.Mathlib.Nat.{sub-zero}
-use native.Mathlib.Omega.{arith}
+use mathlib.Core.Path.{◌≡◌}
+use Prim.Native.Nat.{◌-◌}
 use lib.ListN.{length, drop}
 use Rattle.sheet.specs.Numbers.{low_first}
-use Rattle.sheet.proofs.Writing.{Written, none_written, one_written, all_written, low_length, next_byte, next_rest}
+use Rattle.sheet.proofs.Writing.{Written}
 use Rattle.sheet.proofs.put.Given as goal
 
 abbrev pub invariant-loop-i : goal.invariant-loop-i

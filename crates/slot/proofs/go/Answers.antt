@@ -1,11 +1,6 @@
 -- The loop over the log: each turn keeps `Going`, and the way out is the end of the whole run.
-use mathlib.Core.Path.{sym, ◌∙◌}
-use Prim.Native.Nat.{◌-◌}
 use native.Mathlib.Omega.{arith}
-use lib.ListN.{length}
-use borrow.Author.Rules.{rules}
-use Rattle.card.specs.Card.{card}
-use Rattle.slot.proofs.Loop.{Going, going_start, out_long, stands, going_on, going_off}
+use Rattle.slot.proofs.Loop.{going_on, going_off}
 use Rattle.slot.proofs.go.Goals as goal
 
 pub loop-next-smaller : goal.loop-next-smaller

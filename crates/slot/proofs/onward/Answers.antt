@@ -1,8 +1,7 @@
 -- One turn: no record, or one whose answer has no room, or the record done.
 use mathlib.Core.Path.{sym, ◌∙◌}
 use native.Mathlib.Omega.{arith}
-use borrow.Author.Rules.{rules}
-use Rattle.slot.proofs.Turns.{further, turn_stops, turn_full, turn_goes}
+use Rattle.slot.proofs.Turns.{turn_stops, turn_full, turn_goes}
 use Rattle.slot.proofs.onward.Goals as goal
 
 pub returns-then-out-w : goal.returns-then-out-w

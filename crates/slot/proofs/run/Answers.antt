@@ -1,6 +1,5 @@
 -- A run: refused with 17 or 18 with nothing done, or the loop over the log.
 use borrow.Author.Tests.{eq-eqb, ne_eqb}
-use borrow.Author.Rules.{rules}
 use Rattle.cardlog.specs.Log.{written}
 use Rattle.card.specs.Card.{run}
 use Rattle.slot.specs.Turns.{check_of}

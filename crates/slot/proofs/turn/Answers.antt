@@ -1,6 +1,5 @@
 -- One record done: a command's answer and what it changes, or power lost.
 use mathlib.Core.Path.{refl}
-use borrow.Author.Rules.{rules}
 use Rattle.buslog.proofs.RoundTrip.{over_none}
 use Rattle.card.specs.Card.{step}
 use Rattle.slot.proofs.turn.Goals as goal

@@ -1,10 +1,7 @@
 -- `loads`: after i shifts they are done, the column moved on. The measure is the shifts left.
-use Prim.Native.Nat.{◌-◌}
-use mathlib.Core.Path.{refl}
 use native.Mathlib.Omega.{arith}
-use borrow.Author.Rules.{rules}
 use lib.ListN.{length-set}
-use Rattle.stream.proofs.Shifting.{Any, Streaming, before_first, moved, load_moves, none_left, no_shift_lem}
+use Rattle.stream.proofs.Shifting.{Any, before_first, moved, load_moves}
 use Rattle.stream.proofs.loads.Goals as goal
 
 pub loop-i-init : goal.loop-i-init

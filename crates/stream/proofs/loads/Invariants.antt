@@ -1,10 +1,6 @@
 -- `loads`: after i shifts they are done, the column moved on. The measure is the shifts left.
 use Prim.Native.Nat.{◌-◌}
-use mathlib.Core.Path.{refl}
-use native.Mathlib.Omega.{arith}
-use borrow.Author.Rules.{rules}
-use lib.ListN.{length-set}
-use Rattle.stream.proofs.Shifting.{Any, Streaming, before_first, moved, load_moves, none_left, no_shift_lem}
+use Rattle.stream.proofs.Shifting.{Any, Streaming}
 use Rattle.stream.proofs.loads.Given as goal
 
 abbrev pub invariant-loop-i : goal.invariant-loop-i

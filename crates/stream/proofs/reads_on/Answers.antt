@@ -1,11 +1,7 @@
 -- `reads_on`: after i shifts they are done, the column moved on. The measure is the shifts left.
-use Prim.Native.Nat.{ℕ, ◌-◌}
-use mathlib.Core.Path.{◌≡◌, refl, sym}
+use mathlib.Core.Path.{refl}
 use native.Mathlib.Omega.{arith}
-use borrow.Author.Rules.{rules}
-use Rattle.part.specs.Part.{page}
-use Rattle.part.specs.declared.Geometry.{Geometry}
-use Rattle.stream.proofs.Shifting.{Streaming, before_first, moved, read_moves, none_left, no_shift_lem}
+use Rattle.stream.proofs.Shifting.{before_first, moved, read_moves}
 use Rattle.stream.proofs.reads_on.Invariants.{On}
 use Rattle.stream.proofs.reads_on.Goals as goal
 

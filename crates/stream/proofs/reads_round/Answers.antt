@@ -1,13 +1,7 @@
 -- `reads_round`: after k shifts they are done, the column moved on, and still in the page. The measure is the shifts left.
-use Prim.Native.Nat.{ℕ, ◌-◌, ◌≤◌, ◌<◌}
-use mathlib.Core.List.{List}
-use mathlib.Core.Path.{◌≡◌, refl, sym}
+use mathlib.Core.Path.{refl}
 use native.Mathlib.Omega.{arith}
-use lib.ListN.{length}
-use borrow.Author.Rules.{rules}
-use Rattle.part.specs.Part.{page}
-use Rattle.part.specs.declared.Geometry.{Geometry}
-use Rattle.stream.proofs.Shifting.{Streaming, before_first, moved, round_moves, next_inside, none_left, no_shift_lem}
+use Rattle.stream.proofs.Shifting.{before_first, moved, round_moves, next_inside}
 use Rattle.stream.proofs.reads_round.Invariants.{On}
 use Rattle.stream.proofs.reads_round.Goals as goal
 

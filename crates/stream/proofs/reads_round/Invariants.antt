@@ -1,13 +1,11 @@
 -- `reads_round`: after k shifts they are done, the column moved on, and still in the page. The measure is the shifts left.
 use Prim.Native.Nat.{ℕ, ◌-◌, ◌≤◌, ◌<◌}
 use mathlib.Core.List.{List}
-use mathlib.Core.Path.{◌≡◌, refl, sym}
-use native.Mathlib.Omega.{arith}
+use mathlib.Core.Path.{◌≡◌}
 use lib.ListN.{length}
-use borrow.Author.Rules.{rules}
 use Rattle.part.specs.Part.{page}
 use Rattle.part.specs.declared.Geometry.{Geometry}
-use Rattle.stream.proofs.Shifting.{Streaming, before_first, moved, round_moves, next_inside, none_left, no_shift_lem}
+use Rattle.stream.proofs.Shifting.{Streaming}
 use Rattle.stream.proofs.reads_round.Given as goal
 
 abbrev pub On : List ℕ → Geometry → Type 0

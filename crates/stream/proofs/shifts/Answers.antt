@@ -1,9 +1,7 @@
 -- The shifts of a stream: none, or those of a cache read, or else those of a load.
 use mathlib.Core.Path.{sym, ◌∙◌}
-use native.Mathlib.Omega.{arith}
-use borrow.Author.Tests.{not-true, not-false}
-use Rattle.stream.proofs.Shifting.{streams_past, streams_loads, still_none, outside_none, full_none, some_shifts}
-use borrow.Author.Rules.{rules}
+use borrow.Author.Tests.{not-true}
+use Rattle.stream.proofs.Shifting.{still_none, outside_none, full_none}
 use Rattle.stream.proofs.shifts.Goals as goal
 
 pub returns-then-not-streams : goal.returns-then-not-streams

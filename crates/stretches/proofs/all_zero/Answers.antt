@@ -1,9 +1,5 @@
 -- `all_zero`: at byte i, what was seen is 0 exactly where the sum so far is. The measure is the bytes left.
-use Prim.Native.Nat.{ℕ, ◌+◌, ◌-◌}
-use native.Mathlib.Omega.{arith}
-use lib.ListN.{length}
-use borrow.Author.Rules.{rules}
-use Rattle.stretches.proofs.Zeros.{Seen, seen_none, seen_more, seen_all}
+use Rattle.stretches.proofs.Zeros.{seen_more, seen_all}
 use Rattle.stretches.proofs.all_zero.Goals as goal
 
 pub loop-i-preserved : goal.loop-i-preserved

@@ -1,8 +1,5 @@
 -- `erase_units`: at unit i, going on ends where going from the first unit ends. The measure is the units left.
-use Prim.Native.Nat.{◌-◌}
-use native.Mathlib.Omega.{arith}
-use borrow.Author.Rules.{rules}
-use Rattle.stretches.proofs.Loop.{Running, begun, moved, ended}
+use Rattle.stretches.proofs.Loop.{moved, ended}
 use Rattle.stretches.proofs.erase_units.Goals as goal
 
 pub loop-i-preserved : goal.loop-i-preserved

@@ -1,11 +1,8 @@
 -- `ones_in`: at byte i, going on counts what going from the first byte counts; 8 for a byte at most. The measure is the bytes left.
-use mathlib.Core.Path.{refl}
-use Prim.Native.Nat.{ℕ, ◌+◌, ◌-◌, ◌*◌, ◌≤◌, ◌<◌}
-use native.Mathlib.Omega.{arith}
-use lib.Count.{ones, ones-le}
+use Prim.Native.Nat.{◌+◌, ◌-◌, ◌*◌, ◌≤◌}
+use lib.Count.{ones}
 use lib.ListN.{get_or}
-use borrow.Author.Rules.{rules}
-use Rattle.stretches.proofs.Loop.{Taking, taking, taken, took}
+use Rattle.stretches.proofs.Loop.{Taking}
 use Rattle.stretches.proofs.ones_in.Given as goal
 
 abbrev pub invariant-loop-i : goal.invariant-loop-i

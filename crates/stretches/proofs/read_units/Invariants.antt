@@ -1,9 +1,7 @@
 -- `read_units`: at unit i, going on ends where going from the first unit ends. The measure is the units left.
 use Prim.Native.Nat.{◌-◌}
-use native.Mathlib.Omega.{arith}
 use lib.ListN.{get_or}
-use borrow.Author.Rules.{rules}
-use Rattle.stretches.proofs.Loop.{Running, begun, moved, ended}
+use Rattle.stretches.proofs.Loop.{Running}
 use Rattle.stretches.proofs.read_units.Given as goal
 
 abbrev pub invariant-loop-i : goal.invariant-loop-i

@@ -1,10 +1,8 @@
 -- `turn_back`: at unit i, going on ends where going from the first unit ends. The measure is the units left.
 use Prim.Native.Nat.{◌-◌}
-use native.Mathlib.Omega.{arith}
 use lib.Bits.{bit_xor}
 use lib.ListN.{get_or}
-use borrow.Author.Rules.{rules}
-use Rattle.stretches.proofs.Loop.{Running, begun, moved, ended}
+use Rattle.stretches.proofs.Loop.{Running}
 use Rattle.stretches.proofs.turn_back.Given as goal
 
 abbrev pub invariant-loop-i : goal.invariant-loop-i

@@ -1,10 +1,8 @@
 -- The words are copied until their NUL. The measure is the bytes left of them.
 use Prim.Native.Nat.{◌-◌}
-use native.Mathlib.Omega.{arith}
-use borrow.Author.Rules.{rules}
-use lib.ListN.{length, length-set}
+use lib.ListN.{length}
 use Rattle.texts.specs.Text.{up_to_nul}
-use Rattle.texts.proofs.Laying.{too_short, Copying, begun, left, copied, laid_whole}
+use Rattle.texts.proofs.Laying.{Copying}
 use Rattle.texts.proofs.lay.Given as goal
 
 abbrev pub invariant-loop-b : goal.invariant-loop-b

@@ -2,7 +2,6 @@
 use mathlib.Core.List.{List}
 use mathlib.Core.Path.{ap, ◌∙◌}
 use Prim.Native.Nat.{ℕ}
-use borrow.Author.Rules.{rules}
 use Rattle.texts.specs.Text.{meanings, bytes, text_laid}
 use Rattle.texts.proofs.Words.{rows_of, table, said}
 use Rattle.texts.proofs.lay_text.Goals as goal

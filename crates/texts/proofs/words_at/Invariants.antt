@@ -1,12 +1,9 @@
 -- From each byte on the rows are those that are left. The measure is the bytes left.
 use mathlib.Core.Bool.{true}
-use mathlib.Core.Path.{◌≡◌, refl, sym, ◌∙◌}
+use mathlib.Core.Path.{◌≡◌}
 use Prim.Native.Nat.{◌≤◌, ◌-◌}
-use native.Mathlib.Omega.{arith}
-use borrow.Author.Rules.{rules}
 use lib.ListN.{length, drop}
 use Rattle.texts.specs.Text.{behind_number}
-use Rattle.texts.proofs.Scans.{hit, missed, none_left}
 use Rattle.texts.proofs.words_at.Given as goal
 
 abbrev pub invariant-loop-i : goal.invariant-loop-i

@@ -1,6 +1,5 @@
 -- `letters` is safe and ends: its place stays within the slice, and what is left of the slice falls.
 use Prim.Native.Nat.{◌≤◌, ◌-◌}
-use borrow.Author.Rules.{rules}
 use lib.ListN.{length}
 use Rattle.turns.proofs.letters.Given as goal
 

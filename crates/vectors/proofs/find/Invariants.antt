@@ -1,5 +1,5 @@
 -- The first place of a byte lies within the slice.
-use Rattle.std.proofs.Common.{◌-◌, ◌≤◌, length, rules}
+use Rattle.std.proofs.Common.{◌-◌, ◌≤◌, length}
 use Rattle.vectors.proofs.find.Given as goal
 
 abbrev pub invariant-loop-i : goal.invariant-loop-i

@@ -1,5 +1,5 @@
 -- Line after line, each further on.
-use Rattle.std.proofs.Common.{◌-◌, length, rules}
+use Rattle.std.proofs.Common.{◌-◌, length}
 use Rattle.vectors.proofs.lines.Given as goal
 
 abbrev pub invariant-loop-at : goal.invariant-loop-at

@@ -1,8 +1,7 @@
 -- One turn: no record, or one without room, or the record done.
 use mathlib.Core.Path.{sym, ◌∙◌}
 use native.Mathlib.Omega.{arith}
-use Rattle.walk.proofs.Turns.{further, turn_stops, turn_full, turn_goes}
-use borrow.Author.Rules.{rules}
+use Rattle.walk.proofs.Turns.{turn_stops, turn_full, turn_goes}
 use Rattle.walk.proofs.onward.Goals as goal
 
 pub returns-then-out-w : goal.returns-then-out-w

@@ -8,8 +8,6 @@ use Rattle.device.specs.Machine.{machine}
 use Rattle.device.specs.Work.{unitwise}
 use Rattle.device.specs.Step.{step}
 use Rattle.buslog.proofs.RoundTrip.{over_none, over_one}
-use Rattle.walk.proofs.Turns.{work_ready}
-use borrow.Author.Rules.{rules}
 use Rattle.walk.proofs.turn.Goals as goal
 
 pub returns-in-Select : goal.returns-in-Select

@@ -1,6 +1,5 @@
 -- An instruction acts only with exactly its bytes.
 use Rattle.device.specs.Instructions.{acted}
-use borrow.Author.Rules.{rules}
 use Rattle.device.proofs.State.acts.Goals as goal
 
 pub returns-then-full : goal.returns-then-full

@@ -6,7 +6,6 @@ use borrow.Author.Tests.{not-true, not-false}
 use Rattle.transfer.specs.Transfer.{ends}
 use Rattle.device.specs.Machine.{over_bus}
 use Rattle.device.specs.Instructions.{deselects}
-use borrow.Author.Rules.{rules}
 use Rattle.device.proofs.State.deselect.Goals as goal
 
 pub returns-then-not-t : goal.returns-then-not-t

@@ -4,7 +4,6 @@ use Rattle.codes.specs.declared.Instruction.{Instruction}
 use Rattle.device.specs.Machine.{on_counts}
 use Rattle.device.specs.Work.{unitwise}
 use Rattle.device.specs.Instructions.{resets, effect}
-use borrow.Author.Rules.{rules}
 use Rattle.device.proofs.State.effect.Goals as goal
 
 pub returns-in-WriteEnable : goal.returns-in-WriteEnable

@@ -2,7 +2,6 @@
 use borrow.Author.Tests.{not-true, not-false}
 use Rattle.device.specs.Work.{unitwise}
 use Rattle.device.specs.Instructions.{erases}
-use borrow.Author.Rules.{rules}
 use Rattle.device.proofs.State.erases.Goals as goal
 
 pub returns-then-not-wel : goal.returns-then-not-wel

@@ -1,7 +1,6 @@
 -- Power lost and back.
 use Rattle.device.specs.Work.{unitwise}
 use Rattle.device.specs.Step.{off, powered}
-use borrow.Author.Rules.{rules}
 use Rattle.device.proofs.State.power.Goals as goal
 
 pub returns : goal.returns

@@ -1,6 +1,5 @@
 -- A byte shifted: the answer, the cache and the transfer, one after another.
 use Rattle.device.specs.Instructions.{answer, shifts}
-use borrow.Author.Rules.{rules}
 use Rattle.device.proofs.State.shift.Goals as goal
 
 pub returns : goal.returns

@@ -1,7 +1,6 @@
 -- A sound state: one part after another.
 use borrow.Author.Tests.{not-true, not-false}
 use Rattle.device.specs.Sound.{sound_state}
-use borrow.Author.Rules.{rules}
 use Rattle.device.proofs.State.sound.Goals as goal
 
 pub returns-then-not-registers_sound : goal.returns-then-not-registers_sound

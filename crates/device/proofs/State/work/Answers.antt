@@ -3,7 +3,6 @@ use mathlib.Core.Path.{sym}
 use Rattle.array.specs.Jobs.{store}
 use Rattle.device.specs.Machine.{on_store}
 use Rattle.device.proofs.Units.{units_idle, units_done}
-use borrow.Author.Rules.{rules}
 use Rattle.device.proofs.State.work.Goals as goal
 
 pub returns-in-Idle : goal.returns-in-Idle

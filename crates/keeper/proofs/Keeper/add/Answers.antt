@@ -2,8 +2,7 @@
 use mathlib.Core.Path.{◌≡◌, sym, ◌∙◌}
 use mathlib.Core.Bool.{true}
 use native.Mathlib.Omega.{arith}
-use borrow.Author.Rules.{rules}
-use borrow.Author.Tests.{not-true, not-false, le-leb, lt-leb, eq-eqb, ne_eqb}
+use borrow.Author.Tests.{not-true, not-false, le-leb, lt-leb, ne_eqb}
 use Rattle.keeper.specs.Keeper.{SoundQueue, queue_at, keeper_sound, add_of}
 use Rattle.keeper.proofs.Sound.{sound_facts}
 use Rattle.keeper.proofs.Keeper.add.Goals as goal

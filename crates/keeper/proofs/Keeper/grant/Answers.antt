@@ -1,8 +1,6 @@
 -- A sound keeper searches; the core that it finds is one of the four, and its queue is sound and not empty.
-use mathlib.Core.Path.{◌≡◌, sym, ◌∙◌}
-use mathlib.Core.Bool.{true}
+use mathlib.Core.Path.{sym, ◌∙◌}
 use native.Mathlib.Omega.{arith}
-use borrow.Author.Rules.{rules}
 use borrow.Author.Tests.{not-true, not-false}
 use Prim.Native.Nat.{◌+◌, ◌%◌}
 use Rattle.keeper.specs.Keeper.{SoundKeeper, grant_of}

@@ -1,10 +1,9 @@
 -- From each core on the queues are as sound as from core 0 on. The measure is the cores left.
-use mathlib.Core.Path.{◌≡◌, refl, sym, ◌∙◌}
-use Prim.Native.Nat.{◌+◌, ◌≤◌, ◌-◌}
+use mathlib.Core.Path.{◌≡◌, sym, ◌∙◌}
+use Prim.Native.Nat.{◌+◌, ◌-◌}
 use native.Mathlib.Omega.{arith}
-use borrow.Author.Rules.{rules}
 use borrow.Author.Tests.{lt-ltb, le-ltb, not-true, not-false}
-use Rattle.keeper.specs.Keeper.{keeper_sound, sound_from}
+use Rattle.keeper.specs.Keeper.{keeper_sound}
 use Rattle.keeper.proofs.Searches.{sound_bad, sound_on, sound_end}
 use Rattle.keeper.proofs.Keeper.sound.Goals as goal
 

@@ -1,11 +1,7 @@
 -- From each core on the queues are as sound as from core 0 on. The measure is the cores left.
-use mathlib.Core.Path.{◌≡◌, refl, sym, ◌∙◌}
-use Prim.Native.Nat.{◌+◌, ◌≤◌, ◌-◌}
-use native.Mathlib.Omega.{arith}
-use borrow.Author.Rules.{rules}
-use borrow.Author.Tests.{lt-ltb, le-ltb, not-true, not-false}
-use Rattle.keeper.specs.Keeper.{keeper_sound, sound_from}
-use Rattle.keeper.proofs.Searches.{sound_bad, sound_on, sound_end}
+use mathlib.Core.Path.{◌≡◌}
+use Prim.Native.Nat.{◌≤◌, ◌-◌}
+use Rattle.keeper.specs.Keeper.{sound_from}
 use Rattle.keeper.proofs.Keeper.sound.Given as goal
 
 abbrev pub invariant-loop-c : goal.invariant-loop-c

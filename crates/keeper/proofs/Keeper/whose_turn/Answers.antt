@@ -1,9 +1,6 @@
 -- From each core on the first to be found is the same. The measure is the cores left.
-use mathlib.Core.Path.{◌≡◌, refl, sym, ◌∙◌}
-use Prim.Native.Nat.{◌<◌, ◌-◌}
+use mathlib.Core.Path.{sym, ◌∙◌}
 use native.Mathlib.Omega.{arith}
-use borrow.Author.Rules.{rules}
-use Rattle.keeper.specs.Keeper.{first_from, whose_turn}
 use Rattle.keeper.proofs.Searches.{first_here, first_on, first_end}
 use Rattle.keeper.proofs.Keeper.whose_turn.Goals as goal
 

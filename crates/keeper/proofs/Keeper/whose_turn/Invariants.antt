@@ -1,10 +1,7 @@
 -- From each core on the first to be found is the same. The measure is the cores left.
-use mathlib.Core.Path.{◌≡◌, refl, sym, ◌∙◌}
-use Prim.Native.Nat.{◌<◌, ◌-◌}
-use native.Mathlib.Omega.{arith}
-use borrow.Author.Rules.{rules}
+use mathlib.Core.Path.{◌≡◌}
+use Prim.Native.Nat.{◌<◌}
 use Rattle.keeper.specs.Keeper.{first_from, whose_turn}
-use Rattle.keeper.proofs.Searches.{first_here, first_on, first_end}
 use Rattle.keeper.proofs.Keeper.whose_turn.Given as goal
 
 abbrev pub invariant-loop-left : goal.invariant-loop-left

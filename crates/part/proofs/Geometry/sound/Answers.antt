@@ -1,6 +1,5 @@
 -- A sound geometry: one test after another. The bounds of K and N are said outright, so that one moved in the code is refused where it matters.
 use native.Mathlib.Omega.{arith}
-use borrow.Author.Rules.{rules}
 use borrow.Author.Tests.{le-leb, lt-leb}
 use Rattle.part.specs.Part.{sound_part}
 use Rattle.part.proofs.Geometry.sound.Goals as goal

@@ -1,7 +1,6 @@
 -- A write by address: the address of each arm, and for A0h the lock, decide the definition.
 use borrow.Author.Tests.{ne_eqb}
 use Rattle.registers.specs.Registers.{register_written}
-use borrow.Author.Rules.{rules}
 use Rattle.registers.proofs.Registers.written.Goals as goal
 
 pub returns-then-locked : goal.returns-then-locked

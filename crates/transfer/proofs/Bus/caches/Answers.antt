@@ -1,6 +1,5 @@
 use borrow.Author.Tests.{ne_eqb}
 use Rattle.transfer.specs.Transfer.{cached}
-use borrow.Author.Rules.{rules}
 use Rattle.transfer.proofs.Bus.caches.Goals as goal
 
 pub returns-then-not-body_heard : goal.returns-then-not-body_heard

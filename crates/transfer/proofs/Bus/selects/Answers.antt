@@ -1,5 +1,4 @@
 use Rattle.transfer.specs.Transfer.{selects}
-use borrow.Author.Rules.{rules}
 use Rattle.transfer.proofs.Bus.selects.Goals as goal
 
 pub returns-then-t : goal.returns-then-t

@@ -1,9 +1,7 @@
 -- A byte that is not heard changes nothing; the first one is the instruction, and a later one is kept.
 use mathlib.Core.Path.{sym, ◌∙◌}
 use borrow.Author.Tests.{not-true, not-false, ne_eqb}
-use borrow.Author.Rules.{rules}
 use Rattle.transfer.specs.Transfer.{shifted_in}
-use borrow.Author.Rules.{rules}
 use Rattle.transfer.proofs.Bus.shifted_in.Goals as goal
 
 pub returns-then-not-heard : goal.returns-then-not-heard

@@ -1,5 +1,5 @@
 -- `counts` is safe and ends: its place stays within the slice, and what is left of the slice falls.
-use Rattle.std.proofs.Common.{◌-◌, ◌≤◌, length, rules}
+use Rattle.std.proofs.Common.{◌-◌, ◌≤◌, length}
 use Rattle.vectors.proofs.show.counts.Given as goal
 
 abbrev pub invariant-loop-i : goal.invariant-loop-i

@@ -1,5 +1,5 @@
 -- The numbers of a line: the place stays within the text.
-use Rattle.std.proofs.Common.{◌-◌, ◌≤◌, length, rules}
+use Rattle.std.proofs.Common.{◌-◌, ◌≤◌, length}
 use Rattle.vectors.proofs.setup.Setup.read.Given as goal
 
 abbrev pub invariant-loop-i : goal.invariant-loop-i
