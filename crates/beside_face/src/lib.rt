@@ -1,6 +1,7 @@
 // The C functions beside a run: parts, lengths, soundness, the units of an operation, the next byte, blank memory, records and texts. Plain
 // numbers outside; every content is answered.
 #![tactic(auto)]
+
 ghost use Rattle.std.specs.Prelude.{◌≡◌};
 ghost use Rattle.part.specs.Part.{sound_part, fm25s005bi3, bench};
 ghost use Rattle.device.specs.Step.{power_up};
@@ -127,12 +128,7 @@ pub fn sleet_peek(part: CGeometry, state: CState, cache: &[u8]) -> CPeek
 }
 
 // The memory of a device that was never used.
-pub fn sleet_blank(
-    part: CGeometry,
-    cells: &mut [u8],
-    cache: &mut [u8],
-    counts: &mut [u8],
-) -> u8
+pub fn sleet_blank(part: CGeometry, cells: &mut [u8], cache: &mut [u8], counts: &mut [u8]) -> u8
     ensures { face_blank result cells.new cache.new counts.new
         ≡ blanked_of part cells.old cache.old counts.old }
 {

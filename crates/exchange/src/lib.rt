@@ -1,6 +1,7 @@
 // Bytes exchanged on the bus, with no log in between: a whole transfer, or a piece of one. Each is the run of its records.
 // Document 01, "Logs" and "Instructions".
 #![tactic(auto)]
+
 ghost use Rattle.std.specs.Prelude.{true, ◌≡◌, ◌≤◌, min, length};
 ghost use Rattle.buslog.specs.Log.{written};
 ghost use Rattle.transfer.specs.Transfer.{is};

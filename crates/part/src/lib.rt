@@ -50,6 +50,7 @@ impl Geometry {
     }
 
     // D at least 1, P at most 4,096, K from 1 to 256, N at least 1, K times N at most 65,536.
+    #[tactic(auto, unfolding(crate::specs::Part::sound_part))]
     pub fn sound(self) -> bool
         ensures { result ≡ sound_part self }
     {
@@ -148,6 +149,7 @@ fn complemented(stepping: Stepping, a0: u8) -> bool
 }
 
 // Whether register A0h protects a block.
+#[tactic(auto, unfolding(crate::specs::Protection::protects))]
 pub fn protected(g: Geometry, a0: u8, block: usize) -> bool
     ensures { result ≡ protects g a0 block }
 {

@@ -1,10 +1,7 @@
 -- Bytes one after another: after i of them they are fed; a stream takes the rest. The measure is the bytes left.
-use mathlib.Core.Path.{sym, ◌∙◌}
 use Prim.Native.Nat.{◌-◌}
-use native.Mathlib.Omega.{arith}
 use lib.ListN.{length}
-use borrow.Author.Rules.{rules}
-use Rattle.exchange.proofs.Feeding.{Along, along_none, along_bus, along_all, along_part, part_fits}
+use Rattle.exchange.proofs.Feeding.{Along}
 use Rattle.exchange.proofs.exchanged.Given as goal
 
 abbrev pub invariant-loop-i : goal.invariant-loop-i

@@ -1,13 +1,9 @@
 -- `loads`: after i bytes they are fed, the column moved on. The measure is the bytes left.
 use mathlib.Core.Path.{refl}
-use Prim.Native.Nat.{◌-◌}
 use native.Mathlib.Omega.{arith}
-use lib.ListN.{length, length-set}
-use borrow.Author.Rules.{rules}
-use Rattle.part.specs.declared.Geometry.{Geometry}
-use Rattle.stream.specs.Streams.{at_column}
+use lib.ListN.{length-set}
 use Rattle.stream.proofs.Shifting.{load_moves}
-use Rattle.exchange.proofs.Feeding.{Along, along_none, along_moves, along_all}
+use Rattle.exchange.proofs.Feeding.{along_moves, along_all}
 use Rattle.exchange.proofs.loads.Goals as goal
 
 pub loop-i-preserved : goal.loop-i-preserved

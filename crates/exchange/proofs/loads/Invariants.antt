@@ -1,13 +1,9 @@
 -- `loads`: after i bytes they are fed, the column moved on. The measure is the bytes left.
-use mathlib.Core.Path.{refl}
 use Prim.Native.Nat.{◌-◌}
-use native.Mathlib.Omega.{arith}
-use lib.ListN.{length, length-set}
-use borrow.Author.Rules.{rules}
+use lib.ListN.{length}
 use Rattle.part.specs.declared.Geometry.{Geometry}
 use Rattle.stream.specs.Streams.{at_column}
-use Rattle.stream.proofs.Shifting.{load_moves}
-use Rattle.exchange.proofs.Feeding.{Along, along_none, along_moves, along_all}
+use Rattle.exchange.proofs.Feeding.{Along}
 use Rattle.exchange.proofs.loads.Given as goal
 
 abbrev pub invariant-loop-i : goal.invariant-loop-i

@@ -1,14 +1,11 @@
 -- `reads`: after i bytes they are fed, the column moved on. The measure is the bytes left.
-use mathlib.Core.Path.{◌≡◌, refl, sym}
+use mathlib.Core.Path.{◌≡◌}
 use Prim.Native.Nat.{◌-◌}
-use native.Mathlib.Omega.{arith}
 use lib.ListN.{length}
-use borrow.Author.Rules.{rules}
 use Rattle.part.specs.Part.{page}
 use Rattle.part.specs.declared.Geometry.{Geometry}
 use Rattle.stream.specs.Streams.{at_column}
-use Rattle.stream.proofs.Shifting.{read_moves}
-use Rattle.exchange.proofs.Feeding.{Along, along_none, along_moves, along_all}
+use Rattle.exchange.proofs.Feeding.{Along}
 use Rattle.exchange.proofs.reads.Given as goal
 
 abbrev pub invariant-loop-i : goal.invariant-loop-i

@@ -1,5 +1,4 @@
 -- A run judged: the judgement of the model's run, put right.
-use borrow.Author.Rules.{rules}
 use Rattle.sleetanvil.proofs.Refused.{as_judged}
 use Rattle.sleetanvil.proofs.sleet_judge.Goals as goal
 

@@ -1,5 +1,4 @@
 -- A run: the run of the model, put right.
-use borrow.Author.Rules.{rules}
 use Rattle.sleetanvil.proofs.Refused.{as_ran}
 use Rattle.sleetanvil.proofs.sleet_run.Goals as goal
 

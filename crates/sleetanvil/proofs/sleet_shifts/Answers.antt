@@ -1,6 +1,5 @@
 -- A piece of a transfer, put right.
 use Rattle.sleetanvil.proofs.Refused.{as_exchanged}
-use borrow.Author.Rules.{rules}
 use Rattle.sleetanvil.proofs.sleet_shifts.Goals as goal
 
 pub returns : goal.returns

@@ -1,6 +1,5 @@
 -- A whole transfer, put right.
 use Rattle.sleetanvil.proofs.Refused.{as_exchanged}
-use borrow.Author.Rules.{rules}
 use Rattle.sleetanvil.proofs.sleet_transfer.Goals as goal
 
 pub returns : goal.returns

@@ -1,6 +1,5 @@
 -- Work of the model, put right.
 use Rattle.sleetanvil.proofs.Refused.{as_worked}
-use borrow.Author.Rules.{rules}
 use Rattle.sleetanvil.proofs.sleet_work.Goals as goal
 
 pub returns : goal.returns
