@@ -84,6 +84,7 @@ fn sizes_in(page: &[u8]) -> Sizes
 }
 
 // The first of the three copies that holds.
+#[tactic(auto, unfolding(crate::specs::Copies::read_of))]
 pub fn read(memory: &[u8]) -> Found
     ensures { result ≡ read_of memory.now }
 {

@@ -158,6 +158,7 @@ fn state_as(c: CState, i: Instruction, w: Work) -> State
 }
 
 // The state that numbers stand for.
+#[tactic(auto, unfolding(crate::specs::Face::state_of))]
 pub fn state_of(c: CState) -> Told
     ensures { result ≡ state_of c }
 {

@@ -147,6 +147,7 @@ impl Keeper {
     }
 
     // Whether the last core and every queue are in range.
+    #[tactic(auto, using(crate::proofs::Searches::sound_bad, crate::proofs::Searches::sound_end, crate::proofs::Searches::sound_on), unfolding(crate::specs::Keeper::keeper_sound))]
     pub fn sound(self) -> bool
         ensures { result ≡ keeper_sound self }
     {
@@ -164,6 +165,7 @@ impl Keeper {
     }
 
     // A transfer to the back of a core's queue.
+    #[tactic(auto, using(crate::proofs::Sound::sound_facts), unfolding(crate::specs::Keeper::add_of))]
     pub fn add(self, core: u8, tag: u8) -> Added
         ensures { result ≡ add_of self core tag }
     {

@@ -57,6 +57,7 @@ fn do_pair(e: Record, d: u8) -> Pair
 }
 
 // How many digits a number has.
+#[tactic(auto, unfolding(crate::specs::Lines::places))]
 fn places_of(n: u16) -> usize
     ensures { result ≡ places n }
 {

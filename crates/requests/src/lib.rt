@@ -52,6 +52,7 @@ pub fn used(row: Row, counts: &[u8]) -> u8
 }
 
 // What becomes of a program: the same is asked, and then the count.
+#[tactic(auto, using(crate::proofs::Fates::program_fate_lem))]
 pub fn program_fate(g: Geometry, a0: u8, row: Row, counts: &[u8]) -> Fate
     ensures { result ≡ program_fate g a0 row counts.now }
 {

@@ -123,6 +123,7 @@ fn lay_page(g: Geometry, page: &mut [u8])
 }
 
 // A part's page at the front of lent memory; the bytes behind it stay. Refused, no byte is changed.
+#[tactic(auto, unfolding(crate::specs::Page::make_of))]
 pub fn make(g: Geometry, memory: &mut [u8]) -> Made
     ensures { made_end result memory.new ≡ make_of g memory.old }
 {

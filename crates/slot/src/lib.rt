@@ -138,6 +138,7 @@ fn turn(
 }
 
 // One turn of a run: the record at its place is done, if there is one and its answer has room.
+#[tactic(auto, using(crate::proofs::Turns::turn_full, crate::proofs::Turns::turn_goes, crate::proofs::Turns::turn_stops))]
 fn onward(w: Walk, log: &[u8], cells: &mut [u8], bits: &mut [u8], out: &mut [u8]) -> Went
     requires { (Fits (card w.stage cells.old bits.old)) × (Stands w log.now out.old) }
     ensures { turned result (card (stage_then w result) cells.new bits.new) out.new

@@ -4,9 +4,6 @@ use native.Mathlib.Omega.{arith}
 use Rattle.slot.proofs.Turns.{turn_stops, turn_full, turn_goes}
 use Rattle.slot.proofs.onward.Goals as goal
 
-pub returns-then-out-w : goal.returns-then-out-w
-returns-then-out-w c = turn_full _ _ _ _ _ _ (sym c.next_at.ensures ∙ c.in-Found.is) (omega (arith, c.if-out-w.true, c.room_of-room.ensures))
-
 pub returns-in-Stop : goal.returns-in-Stop
 returns-in-Stop c = turn_stops _ _ _ _ _ _ (sym c.next_at.ensures ∙ c.in-Stop.is) c.refusal_of.ensures
 
