@@ -235,6 +235,7 @@ impl Bus {
     }
 
     // What one byte shifted in does to the cache register.
+    #[tactic(auto, unfolding(crate::specs::Transfer::cached))]
     pub fn caches(self, g: Geometry, b: u8, cache: &mut [u8])
         ensures { cache.new ≡ cached g self b cache.old }
     {

@@ -11,5 +11,5 @@ loop-i-init c = before_first (On c.page-page.result) c.args.s c.args.log.now c.a
 pub loop-i-preserved : goal.loop-i-preserved
 loop-i-preserved c =
     rw (c.next_read-c.ensures, c.byte_at.ensures)
-    (moved c.loop-i.invariant c.loop-i-test.true (omega (arith, c.if-log-at-ne2.false)) refl
+    (moved c.loop-i.invariant c.loop-i-test.true (omega arith) refl
     (λ g o. rw (← o) (read_moves g c.args.s c.requires.0 c.loop-i.c c.args.cache.now _ c.requires.1)))

@@ -13,7 +13,7 @@ loop-k-init c =
 pub loop-k-preserved : goal.loop-k-preserved
 loop-k-preserved c =
     rw (c.next_in_page-c.ensures, c.wide_short.ensures) (
-      moved c.loop-k.invariant.0 c.loop-k-test.true (omega (arith, c.if-log-at-ne2.false)) refl
+      moved c.loop-k.invariant.0 c.loop-k-test.true (omega arith) refl
           (λ g o. round_moves g c.args.s c.requires.0 c.loop-k.c c.args.cache.now _ c.requires.1 o c.loop-k.invariant.1),
       next_inside _ _ c.loop-k.invariant.1,
       c.loop-k.invariant.2,
