@@ -34,7 +34,7 @@ block_at g r = block g r * (g.pages * page g)
 abbrev pub inside : Geometry → Row → Bool
 inside g r = ltb r.0 (rows g)
 
--- read, P units; program, P units; erase, K-as-P units; a reset 8 (document 02, item 2)
+-- read, P units; program, P units; erase, K·P units; a reset 8 (document 02, item 2)
 abbrev pub length_of : Geometry → Job → ℕ
 length_of g (Read r) = page g
 length_of g (Program r) = page g
