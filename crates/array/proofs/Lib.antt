@@ -1,5 +1,3 @@
-pub mod Steps
-pub mod Loop
 pub mod Room
 pub mod Stores
 pub mod OneAnswer

@@ -10,8 +10,9 @@ use Rattle.part.specs.Part.{rows}
 use Rattle.part.specs.declared.Geometry.{Geometry}
 use Rattle.part.specs.declared.Row.{Row}
 use Rattle.array.specs.declared.Job.TheVariants.{Read, Program, Erase, Restart}
-use Rattle.array.specs.Jobs.{Store, store, page_at, block_at, written, steps}
-use Rattle.array.proofs.Steps.{beside, laid_back}
+use Rattle.array.specs.Jobs.{Store, store, page_at, block_at, written}
+use Rattle.stretches.specs.Steps.{steps}
+use Rattle.stretches.proofs.Steps.{beside, laid_back}
 
 -- the units of an operation, by what each does to one of the two lists
 same : (f : ℕ → List ℕ → List ℕ) (h : ℕ → Store → Store) (put : List ℕ → Store) (k : ℕ) → ((i : ℕ) (l : List ℕ) → i < k → put (f i l) ≡ h i (put l))

@@ -1,5 +1,5 @@
 -- Document 01, "Work of the array": what unit i of an operation does, and how long an operation is.
-use Rattle.std.specs.Prelude.{Bool, List, ◌≡◌, ℕ, zero, suc, ◌+◌, ◌-◌, ◌*◌, ◌<◌, min, ltb, length, get_or, set, if◌then◌else◌}
+use Rattle.std.specs.Prelude.{Bool, List, ◌≡◌, ℕ, ◌+◌, ◌-◌, ◌*◌, ◌<◌, min, ltb, length, get_or, set, if◌then◌else◌}
 use Rattle.std.specs.Int.Bits.{bit_and}
 use Rattle.part.specs.Part.{page, rows, place, block, Sound}
 use Rattle.part.specs.declared.Geometry.{Geometry}
@@ -8,6 +8,8 @@ use Rattle.array.specs.declared.Job.{Job}
 use Rattle.array.specs.declared.Job.TheVariants.{Read, Program, Erase, Restart}
 use Rattle.array.specs.declared.Work.{Work}
 use Rattle.array.specs.declared.Work.TheVariants.{Idle, Busy}
+-- the steps of stretches are those of the array: step i, step i + 1 and so on, n of them
+unfoldable pub use Rattle.stretches.specs.Steps.{steps}
 
 -- what the array works on: the cells and the cache register
 pub record Store : Type 0 where
@@ -59,11 +61,6 @@ written g (Read r) i s = taken g r i s
 written g (Program r) i s = anded g r i s
 written g (Erase r) i s = blanked g r i s
 written g Restart i s = s
-
--- step i, step i + 1 and so on, n of them
-unfoldable pub steps : {A : Type 0} → (ℕ → A → A) → ℕ → ℕ → A → A
-steps f i zero x = x
-steps f i (suc n) x = steps f (suc i) n (f i x)
 
 -- n units of an operation, from unit i on: of those that are left, the first n
 abbrev pub many : Geometry → Job → ℕ → ℕ → Store → Store

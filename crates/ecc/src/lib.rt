@@ -1,7 +1,7 @@
 // The ECC of a page: its sectors, their marked bits, what is mended and what ECCS says. Document 02, item 3.
 #![tactic(auto)]
 
-ghost use Rattle.std.specs.Prelude.{◌≡◌, ◌≤◌, ◌<◌, max, length, get_or};
+ghost use Rattle.std.specs.Prelude.{◌≡◌, ◌≤◌, ◌<◌, length, get_or};
 ghost use Rattle.part.specs.Part.{page, Sound};
 ghost use Rattle.ecc.specs.Ecc.{sectored, sectors, sector_at, marked, worst, eccs, sector_turned, mended_sector, mended};
 
@@ -11,10 +11,7 @@ use part::Geometry;
 fn sectored(g: Geometry) -> bool
     ensures { result ≡ sectored g }
 {
-    if g.main % 512 != 0 {
-        return false;
-    }
-    g.spare == g.main / 16
+    g.main % 512 == 0 && g.spare == g.main / 16
 }
 
 // How many sectors a page has.
@@ -22,13 +19,14 @@ fn sectors(g: Geometry) -> usize
     ensures { result ≡ sectors g }
 {
     if sectored(g) {
-        return part::wide(g.main) / 512;
+        g.main as usize / 512
+    } else {
+        1
     }
-    1
 }
 
 // A sector's two stretches of a page: its data bytes from `main` up to `past`, its spare ones from `spare` up to `end`.
-#[derive(Clone, Copy)]
+#[derive(Clone, Copy, Debug, PartialEq, Eq)]
 struct Sector {
     main: usize,
     past: usize,
@@ -43,11 +41,11 @@ fn sector_at(g: Geometry, j: usize) -> Sector
 {
     if sectored(g) {
         let main = 512 * j;
-        let spare = part::wide(g.main) + 32 * j;
+        let spare = g.main as usize + 32 * j;
         return Sector {
-            main: main,
+            main,
             past: main + 512,
-            spare: spare,
+            spare,
             end: spare + 16,
         };
     }
@@ -87,37 +85,24 @@ fn mend_sector(g: Geometry, j: usize, marks: &[u8], cache: &mut [u8]) -> u32
     ensures { (result ≡ marked g (λ c. get_or marks.now c 0) j) × (cache.new ≡ mended_sector g (λ c. get_or marks.now c 0) j cache.old) }
 {
     let n = marked(g, j, marks);
-    if 8 < n {
-        return n;
+    if n <= 8 {
+        turn_sector(g, j, marks, cache);
     }
-    turn_sector(g, j, marks, cache);
     n
 }
 
-// The larger of two numbers.
-fn larger(a: u32, b: u32) -> u32
-    ensures { result ≡ max a b }
-{
-    if a < b { b } else { a }
-}
-
 // ECCS for so many marked bits in the worst sector.
+#[tactic(auto, unfolding(crate::specs::Ecc::eccs))]
 fn eccs(n: u32) -> u8
     ensures { result ≡ eccs n }
 {
-    if n == 0 {
-        return 0;
+    match n {
+        0 => 0,
+        1..=3 => 1,
+        4..=6 => 3,
+        7..=8 => 5,
+        _ => 2,
     }
-    if n <= 3 {
-        return 1;
-    }
-    if n <= 6 {
-        return 3;
-    }
-    if n <= 8 {
-        return 5;
-    }
-    2
 }
 
 // The sectors one after another: each that has at most 8 marked bits is mended. What ECCS then says.
@@ -126,12 +111,9 @@ fn mend_all(g: Geometry, marks: &[u8], cache: &mut [u8]) -> u8
     ensures { (result ≡ eccs (worst g (λ c. get_or marks.now c 0))) × (cache.new ≡ mended g (λ c. get_or marks.now c 0) cache.old) }
 {
     let count = sectors(g);
-    let mut most = 0u32;
-    let mut j = 0;
-    while j < count {
-        let n = mend_sector(g, j, marks, cache);
-        most = larger(most, n);
-        j += 1;
+    let mut most = 0;
+    for j in 0..count {
+        most = most.max(mend_sector(g, j, marks, cache));
     }
     eccs(most)
 }
@@ -142,7 +124,8 @@ pub fn mend(g: Geometry, marks: &[u8], cache: &mut [u8]) -> u8
     ensures { (result ≡ eccs (worst g (λ c. get_or marks.now c 0))) × (cache.new ≡ mended g (λ c. get_or marks.now c 0) cache.old) }
 {
     if stretches::all_zero(marks) {
-        return 0;
+        0
+    } else {
+        mend_all(g, marks, cache)
     }
-    mend_all(g, marks, cache)
 }

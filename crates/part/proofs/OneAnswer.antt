@@ -1,8 +1,6 @@
--- T7 for this crate: each public function's contract allows one answer, and one content of the lent memory.
-use mathlib.Core.List.{List}
-use mathlib.Core.Path.{◌∙◌, sym, refl}
-use Prim.Native.Nat.{ℕ}
-use Rattle.part.specs.OneAnswer.{OneAnswer, OneEnd}
+-- T7 for this crate: each public function's contract allows one answer.
+use mathlib.Core.Path.{◌∙◌, sym}
+use Rattle.part.specs.OneAnswer.{OneAnswer}
 use Rattle.part.proofs.Geometry.page.Reads as page-reads
 use Rattle.part.proofs.Geometry.page.Kinds as page-kinds
 use Rattle.part.proofs.Geometry.rows.Reads as rows-reads
@@ -15,16 +13,10 @@ use Rattle.part.proofs.place.Reads as place-reads
 use Rattle.part.proofs.place.Kinds as place-kinds
 use Rattle.part.proofs.protected.Reads as protected-reads
 use Rattle.part.proofs.protected.Kinds as protected-kinds
-use Rattle.part.proofs.fill.Reads as fill-reads
-use Rattle.part.proofs.fill.Kinds as fill-kinds
 use Rattle.part.proofs.Fm25s005bi3.geometry.Reads as fm25s005bi3-reads
 use Rattle.part.proofs.Fm25s005bi3.geometry.Kinds as fm25s005bi3-kinds
 use Rattle.part.proofs.Bench.geometry.Reads as bench-reads
 use Rattle.part.proofs.Bench.geometry.Kinds as bench-kinds
-use Rattle.part.proofs.wide.Reads as wide-reads
-use Rattle.part.proofs.wide.Kinds as wide-kinds
-use Rattle.part.proofs.wide_short.Reads as wide-short-reads
-use Rattle.part.proofs.wide_short.Kinds as wide-short-kinds
 
 pub page_one : OneAnswer 0 page-kinds.ps page-kinds.r page-reads.Post
 page_one κs a x y s t p q = p ∙ sym q
@@ -49,12 +41,3 @@ fm25s005bi3_one κs a x y s t p q = p ∙ sym q
 
 pub bench_one : OneAnswer 0 bench-kinds.ps bench-kinds.r bench-reads.Post
 bench_one κs a x y s t p q = p ∙ sym q
-
-pub wide_one : OneAnswer 0 wide-kinds.ps wide-kinds.r wide-reads.Post
-wide_one κs a x y s t p q = p ∙ sym q
-
-pub wide_short_one : OneAnswer 0 wide-short-kinds.ps wide-short-kinds.r wide-short-reads.Post
-wide_short_one κs a x y s t p q = p ∙ sym q
-
-pub fill_one : OneEnd 1 fill-kinds.ps fill-kinds.r (List ℕ) (λ κs s. s.0.now) fill-reads.Post
-fill_one κs a x y s t p q = (refl, p ∙ sym q)

@@ -44,6 +44,10 @@ of_stepping st g = record { main = g.main; spare = g.spare; pages = g.pages; blo
 abbrev pub no_part : Geometry
 no_part = record { main = 0; spare = 0; pages = 0; blocks = 0; id0 = 0; id1 = 0; stepping = First }
 
+-- a part of these numbers, of the first stepping
+abbrev pub first_of : ℕ → ℕ → ℕ → ℕ → ℕ → ℕ → Geometry
+first_of d s k n id0 id1 = record { main = d; spare = s; pages = k; blocks = n; id0 = id0; id1 = id1; stepping = First }
+
 -- FM25S005BI3, as it first came
 abbrev pub fm25s005bi3 : Geometry
 fm25s005bi3 = record { main = 2048; spare = 128; pages = 64; blocks = 512; id0 = 0xA1; id1 = 0xD5; stepping = First }

@@ -2,12 +2,12 @@
 // Document 01, "The article" and "Protection".
 #![tactic(auto)]
 
-ghost use Rattle.std.specs.Prelude.{◌≡◌, ◌^◌, ◌<◌, length, replicate};
-ghost use Rattle.part.specs.Part.{page, rows, sound_part, place, block, fm25s005bi3, bench};
+ghost use Rattle.std.specs.Prelude.{◌≡◌, ◌^◌, ◌<◌, ℕ};
+ghost use Rattle.part.specs.Part.{page, rows, sound_part, place, block, first_of, fm25s005bi3, bench};
 ghost use Rattle.part.specs.Protection.{bp, guarded, picked, complemented, protects};
 
 // The stepping of a part. The second has CMP, the complement bit, in A0h.
-#[derive(Clone, Copy)]
+#[derive(Clone, Copy, Debug, PartialEq, Eq)]
 pub enum Stepping {
     First,
     Second,
@@ -15,7 +15,7 @@ pub enum Stepping {
 
 // D, S, K, N, the two identity bytes and the stepping. Every number of 32 bits can be handed in, so each unsound geometry can be said;
 // D + S and K times N, the sums and products that the soundness rule asks about, never leave 64 bits.
-#[derive(Clone, Copy)]
+#[derive(Clone, Copy, Debug, PartialEq, Eq)]
 pub struct Geometry {
     pub main: u32,
     pub spare: u32,
@@ -27,11 +27,11 @@ pub struct Geometry {
 }
 
 // A row address: which page of the array.
-#[derive(Clone, Copy)]
+#[derive(Clone, Copy, Debug, PartialEq, Eq)]
 pub struct Row(pub u16);
 
 // A column address: which byte of a page.
-#[derive(Clone, Copy)]
+#[derive(Clone, Copy, Debug, PartialEq, Eq)]
 pub struct Column(pub u16);
 
 impl Geometry {
@@ -39,14 +39,14 @@ impl Geometry {
     pub fn page(self) -> usize
         ensures { result ≡ page self }
     {
-        wide(self.main) + wide(self.spare)
+        self.main as usize + self.spare as usize
     }
 
     // The rows of the array, K times N.
     pub fn rows(self) -> usize
         ensures { result ≡ rows self }
     {
-        wide(self.pages) * wide(self.blocks)
+        self.pages as usize * self.blocks as usize
     }
 
     // D at least 1, P at most 4,096, K from 1 to 256, N at least 1, K times N at most 65,536.
@@ -54,22 +54,12 @@ impl Geometry {
     pub fn sound(self) -> bool
         ensures { result ≡ sound_part self }
     {
-        if self.main < 1 {
-            return false;
-        }
-        if 4096 < self.page() {
-            return false;
-        }
-        if self.pages < 1 {
-            return false;
-        }
-        if 256 < self.pages {
-            return false;
-        }
-        if self.blocks < 1 {
-            return false;
-        }
-        self.rows() <= 65536
+        1 <= self.main
+            && self.page() <= 4096
+            && 1 <= self.pages
+            && self.pages <= 256
+            && 1 <= self.blocks
+            && self.rows() <= 65536
     }
 
     // The block of a row. A part without pages, which is not sound, has the one number 0.
@@ -79,7 +69,7 @@ impl Geometry {
         if self.pages == 0 {
             return 0;
         }
-        wide_short(row.0) / wide(self.pages)
+        usize::from(row.0) / self.pages as usize
     }
 }
 
@@ -87,7 +77,7 @@ impl Geometry {
 pub fn place(g: Geometry, row: Row, column: Column) -> usize
     ensures { result ≡ place g row column }
 {
-    wide_short(row.0) * g.page() + wide_short(column.0)
+    usize::from(row.0) * g.page() + usize::from(column.0)
 }
 
 // The BP number of register A0h.
@@ -105,8 +95,7 @@ fn guarded(g: Geometry, a0: u8) -> usize
     if b == 0 {
         return 0;
     }
-    let n = wide(g.blocks);
-    n / two_to(7 - b)
+    g.blocks as usize / two_to(7 - b)
 }
 
 // Two to the power k.
@@ -125,8 +114,7 @@ fn picked(g: Geometry, a0: u8, block: usize) -> bool
     if a0 / 4 % 2 == 1 {
         return block < count;
     }
-    let n = wide(g.blocks);
-    n - count <= block
+    g.blocks as usize - count <= block
 }
 
 // Whether the others are protected in their place: on the second stepping, with CMP 1 and b from 1 to 6.
@@ -137,13 +125,7 @@ fn complemented(stepping: Stepping, a0: u8) -> bool
         Stepping::First => false,
         Stepping::Second => {
             let b = bp(a0);
-            if a0 / 2 % 2 != 1 {
-                return false;
-            }
-            if b < 1 {
-                return false;
-            }
-            b <= 6
+            a0 / 2 % 2 == 1 && 1 <= b && b <= 6
         }
     }
 }
@@ -153,98 +135,125 @@ fn complemented(stepping: Stepping, a0: u8) -> bool
 pub fn protected(g: Geometry, a0: u8, block: usize) -> bool
     ensures { result ≡ protects g a0 block }
 {
-    if wide(g.blocks) <= block {
-        return false;
-    }
-    let p = picked(g, a0, block);
-    let s = g.stepping;
-    if complemented(s, a0) { !p } else { p }
+    block < g.blocks as usize && picked(g, a0, block) != complemented(g.stepping, a0)
 }
 
-// Lent memory filled with one byte.
-pub fn fill(memory: &mut [u8], byte: u8)
-    ensures { memory.new ≡ replicate (length memory.old) byte }
+// The fixed numbers of a named part: for clauses the ghosts, and for code the constants, which the check shows equal.
+pub trait NamedPart {
+    ghost D: { ℕ };
+
+    ghost S: { ℕ };
+
+    ghost K: { ℕ };
+
+    ghost N: { ℕ };
+
+    ghost ID0: { ℕ };
+
+    ghost ID1: { ℕ };
+
+    const D: u32;
+
+    const S: u32;
+
+    const K: u32;
+
+    const N: u32;
+
+    const ID0: u8;
+
+    const ID1: u8;
+}
+
+// The geometry made of a part's fixed numbers, of the first stepping.
+fn geometry_of<C: NamedPart>() -> Geometry
+    ensures { result ≡ first_of C.D C.S C.K C.N C.ID0 C.ID1 }
 {
-    let mut i = 0;
-    while i < memory.len() {
-        memory[i] = byte;
-        i += 1;
+    Geometry {
+        main: C::D,
+        spare: C::S,
+        pages: C::K,
+        blocks: C::N,
+        id0: C::ID0,
+        id1: C::ID1,
+        stepping: Stepping::First,
     }
 }
 
 // The part of the datasheet.
-#[derive(Clone, Copy)]
+#[derive(Clone, Copy, Debug, PartialEq, Eq)]
 pub struct Fm25s005bi3 {}
 
+impl NamedPart for Fm25s005bi3 {
+    ghost D = { fm25s005bi3.main };
+
+    ghost S = { fm25s005bi3.spare };
+
+    ghost K = { fm25s005bi3.pages };
+
+    ghost N = { fm25s005bi3.blocks };
+
+    ghost ID0 = { fm25s005bi3.id0 };
+
+    ghost ID1 = { fm25s005bi3.id1 };
+
+    const D: u32 = 2048;
+
+    const S: u32 = 128;
+
+    const K: u32 = 64;
+
+    const N: u32 = 512;
+
+    const ID0: u8 = 0xA1;
+
+    const ID1: u8 = 0xD5;
+}
+
 impl Fm25s005bi3 {
-    pub const D: u32 = 2048;
-
-    pub const S: u32 = 128;
-
-    pub const K: u32 = 64;
-
-    pub const N: u32 = 512;
-
-    pub const ID0: u8 = 0xA1;
-
-    pub const ID1: u8 = 0xD5;
-
+    // The geometry of this part.
     pub fn geometry() -> Geometry
         ensures { result ≡ fm25s005bi3 }
     {
-        Geometry {
-            main: Fm25s005bi3::D,
-            spare: Fm25s005bi3::S,
-            pages: Fm25s005bi3::K,
-            blocks: Fm25s005bi3::N,
-            id0: Fm25s005bi3::ID0,
-            id1: Fm25s005bi3::ID1,
-            stepping: Stepping::First,
-        }
+        geometry_of::<Fm25s005bi3>()
     }
 }
 
 // The small part of the replay program.
-#[derive(Clone, Copy)]
+#[derive(Clone, Copy, Debug, PartialEq, Eq)]
 pub struct Bench {}
 
+impl NamedPart for Bench {
+    ghost D = { bench.main };
+
+    ghost S = { bench.spare };
+
+    ghost K = { bench.pages };
+
+    ghost N = { bench.blocks };
+
+    ghost ID0 = { bench.id0 };
+
+    ghost ID1 = { bench.id1 };
+
+    const D: u32 = 16;
+
+    const S: u32 = 4;
+
+    const K: u32 = 4;
+
+    const N: u32 = 8;
+
+    const ID0: u8 = 0x5A;
+
+    const ID1: u8 = 0x01;
+}
+
 impl Bench {
-    pub const D: u32 = 16;
-
-    pub const S: u32 = 4;
-
-    pub const K: u32 = 4;
-
-    pub const N: u32 = 8;
-
-    pub const ID0: u8 = 0x5A;
-
-    pub const ID1: u8 = 0x01;
-
+    // The geometry of this part.
     pub fn geometry() -> Geometry
         ensures { result ≡ bench }
     {
-        Geometry {
-            main: Bench::D,
-            spare: Bench::S,
-            pages: Bench::K,
-            blocks: Bench::N,
-            id0: Bench::ID0,
-            id1: Bench::ID1,
-            stepping: Stepping::First,
-        }
+        geometry_of::<Bench>()
     }
-}
-
-// A number of 32 bits, and one of 16, as a length or a place.
-pub fn wide(x: u32) -> usize
-    ensures { result ≡ x }
-{
-    x as usize
-}
-
-pub fn wide_short(x: u16) -> usize
-    ensures { result ≡ x }
-{
-    x as usize
 }

@@ -33,9 +33,6 @@ pub record Running (v : ℕ → List ℕ → ℕ) (from to : ℕ) (l₀ l : List
   pub ends : steps (writing v) i (to - i) l ≡ steps (writing v) from (to - from) l₀
 
 module _ {v : ℕ → List ℕ → ℕ} {from to : ℕ} {l₀ : List ℕ} where
-  pub begun : from ≤ to → Running v from to l₀ l₀ from
-  begun h = record { below = h; long = refl; ends = refl }
-
   pub moved : {l m : List ℕ} {i : ℕ} → Running v from to l₀ l i → i < to → m ≡ set l i (v i l) → Running v from to l₀ m (i + 1)
   moved {l} {m} {i} r h e =
       rw e

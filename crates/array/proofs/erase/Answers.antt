@@ -9,13 +9,12 @@ use Rattle.array.proofs.erase.Goals as goal
 
 pub slice_bounds-erase_units-end : goal.slice_bounds-erase_units-end
 slice_bounds-erase_units-end c =
-    let s = c.before.before.before.before.before in
-    rw (c.wide.ensures, c.page.ensures, c.block.ensures)
-    (omega (arith, block_in s.args.g s.args.row s.requires.0.part s.requires.0.going.in_array))
+    rw (c.page.ensures, c.block.ensures)
+    (omega (arith, block_in c.args.g c.args.row c.requires.0.part c.requires.0.going.in_array))
 
 pub returns : goal.returns
 returns c =
     let a = c.args in
     let at = block_at a.g a.row in
-    rw (c.erase_units.ensures, c.wide.ensures, c.page.ensures, c.block.ensures)
+    rw (c.erase_units.ensures, c.page.ensures, c.block.ensures)
     (erase_in a.g a.row a.cells.now a.cache.now (at + a.g.pages * page a.g - at) (a.to - a.from) a.from (omega arith))

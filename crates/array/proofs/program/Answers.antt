@@ -9,8 +9,7 @@ use Rattle.array.proofs.program.Goals as goal
 
 pub slice_bounds-program_units-end : goal.slice_bounds-program_units-end
 slice_bounds-program_units-end c =
-    let s = c.before.before.before.before in
-    omega (arith, page_in s.args.g s.args.row s.requires.0.part s.requires.0.going.in_array)
+    omega (arith, page_in c.args.g c.args.row c.requires.0.part c.requires.0.going.in_array)
 
 pub returns : goal.returns
 returns c =

@@ -9,17 +9,16 @@ use Rattle.array.proofs.read.Goals as goal
 
 pub slice_bounds-read_units-end : goal.slice_bounds-read_units-end
 slice_bounds-read_units-end c =
-    let s = c.before.before.before.before.before.before.before in
-    omega (arith, page_in s.args.g s.args.row s.requires.0.part (omega arith))
+    omega (arith, page_in c.args.g c.args.row c.requires.0.part (omega arith))
 
-pub returns-then-wide_short-rows : goal.returns-then-wide_short-rows
-returns-then-wide_short-rows c =
+pub returns-then-from-rows : goal.returns-then-from-rows
+returns-then-from-rows c =
     let a = c.args in
     let at = page_at a.g a.row in
     rw (c.read_units.ensures, c.place-a.ensures, c.page.ensures)
     (read_in a.g a.row a.cells.now a.cache.now (at + page a.g - at) (a.to - a.from) a.from (omega arith) (omega arith))
 
-pub returns-else-wide_short-rows : goal.returns-else-wide_short-rows
-returns-else-wide_short-rows c =
+pub returns-else-from-rows : goal.returns-else-from-rows
+returns-else-from-rows c =
     let a = c.args in
     rw c.erase_units.ensures (read_out a.g a.row a.cells.now a.cache.now a.to (a.to - a.from) a.from (omega arith) (omega arith))

@@ -1,9 +1,11 @@
--- `all_zero`: at byte i, what was seen is 0 exactly where the sum so far is. The measure is the bytes left.
-use Rattle.stretches.proofs.Zeros.{seen_more, seen_all}
+-- `all_zero`: each byte is 0 exactly where their sum is.
+use Rattle.std.proofs.Common.{rules, ◌≡◌, ℕ, ◌<◌, length, get_or}
+use Rattle.std.specs.Prelude.{◌↔◌, IsTrue}
+use Rattle.stretches.proofs.Zeros.{sum_none}
 use Rattle.stretches.proofs.all_zero.Goals as goal
 
-pub loop-i-preserved : goal.loop-i-preserved
-loop-i-preserved c = seen_more c.loop-i.invariant c.loop-i-test.true
-
 pub returns : goal.returns
-returns c = seen_all c.loop-i.invariant c.loop-i-test.false
+returns c =
+    let bs = c.args.bytes.now in
+    let h : IsTrue c.all.result ↔ ((k : ℕ) → k < length bs → get_or bs k 0 ≡ 0) = search rules in
+    sum_none bs c.all.result h

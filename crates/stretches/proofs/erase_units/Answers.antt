@@ -1,9 +1,10 @@
--- `erase_units`: at unit i, going on ends where going from the first unit ends. The measure is the units left.
-use Rattle.stretches.proofs.Loop.{moved, ended}
+-- `erase_units`: the stretch filled is what its units leave.
+use Prim.Native.Nat.{◌-◌}
+use native.Mathlib.Omega.{arith}
+use Rattle.stretches.proofs.Filled.{part_filled}
 use Rattle.stretches.proofs.erase_units.Goals as goal
 
-pub loop-i-preserved : goal.loop-i-preserved
-loop-i-preserved c = moved c.loop-i.invariant c.loop-i-test.true c.erase_unit.ensures
-
 pub returns : goal.returns
-returns c = ended c.loop-i.invariant c.loop-i-test.false
+returns c =
+    let a = c.args in
+    rw (c.fill.ensures.after (λ y e. e)) (part_filled 0xFF a.from (a.to - a.from) a.block.now (omega arith))

@@ -1,4 +1,5 @@
--- `program_units`: at unit i, going on ends where going from the first unit ends. The measure is the units left.
+-- `program_units`: at unit i, going on ends where going from the first unit ends.
+use native.Mathlib.Omega.{arith}
 use Rattle.stretches.proofs.Loop.{moved, ended}
 use Rattle.stretches.proofs.program_units.Goals as goal
 
@@ -6,4 +7,4 @@ pub loop-i-preserved : goal.loop-i-preserved
 loop-i-preserved c = moved c.loop-i.invariant c.loop-i-test.true c.program_unit.ensures
 
 pub returns : goal.returns
-returns c = ended c.loop-i.invariant c.loop-i-test.false
+returns c = ended c.loop-i.invariant (omega arith)
