@@ -5,9 +5,9 @@
 ghost use Rattle.std.specs.Prelude.{◌≡◌};
 ghost use Rattle.codes.specs.Codes.{byte_of, instruction_of, open?, heard_as, form_bytes};
 
-// The instruction of a transfer. `Ignored` stands where there is none to carry out: no byte has come yet, the byte is no
-// instruction, or the array was busy as it came.
-#[derive(Clone, Copy)]
+// The instruction of a transfer. `Ignored` stands where there is none to carry out: no byte has come yet, the byte is no instruction, or
+// the array was busy as it came. (No Option: None for these three would be no plainer, and document 01 calls them ignored.)
+#[derive(Clone, Copy, Debug, PartialEq, Eq)]
 pub enum Instruction {
     Ignored,
     WriteEnable,
@@ -25,6 +25,7 @@ pub enum Instruction {
 }
 
 // The instruction of a byte.
+#[tactic(auto, unfolding(crate::specs::Codes::instruction_of))]
 pub fn instruction_of(b: u8) -> Instruction
     ensures { result ≡ instruction_of b }
 {
@@ -45,7 +46,7 @@ pub fn instruction_of(b: u8) -> Instruction
     }
 }
 
-// Stands for the byte of what is ignored: it is no byte.
+// Stands for the byte of what is ignored: it is no byte. (A number, since the C form of a state holds it as one.)
 pub const NO_BYTE: u16 = 256;
 
 // The byte of an instruction.
@@ -69,7 +70,7 @@ pub fn byte_of(i: Instruction) -> u16
     }
 }
 
-// The bytes of an instruction that acts as chip select rises.
+// The bytes of an instruction that acts as chip select rises; 0 for one that does not, as the definition of specs/ has it.
 pub fn form_bytes(i: Instruction) -> u8
     ensures { result ≡ form_bytes i }
 {
@@ -94,21 +95,16 @@ pub fn form_bytes(i: Instruction) -> u8
 pub fn let_in(b: u8) -> bool
     ensures { result ≡ open? b }
 {
-    match b {
-        0x0F | 0x9F | 0xFF => true,
-        _ => false,
-    }
+    matches!(b, 0x0F | 0x9F | 0xFF)
 }
 
 // The instruction that a first byte begins: a busy array lets in three of them.
 pub fn heard_as(busy: bool, b: u8) -> Instruction
     ensures { result ≡ heard_as busy b }
 {
-    if !busy {
-        return instruction_of(b);
+    if !busy || let_in(b) {
+        instruction_of(b)
+    } else {
+        Instruction::Ignored
     }
-    if let_in(b) {
-        return instruction_of(b);
-    }
-    Instruction::Ignored
 }

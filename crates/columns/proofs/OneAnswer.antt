@@ -13,8 +13,6 @@ use Rattle.columns.proofs.store_at.Reads as store-at-reads
 use Rattle.columns.proofs.store_at.Kinds as store-at-kinds
 use Rattle.columns.proofs.column_of.Reads as column-of-reads
 use Rattle.columns.proofs.column_of.Kinds as column-of-kinds
-use Rattle.columns.proofs.wide_byte.Reads as wide-byte-reads
-use Rattle.columns.proofs.wide_byte.Kinds as wide-byte-kinds
 
 pub next_column_one : OneAnswer 0 next-column-kinds.ps next-column-kinds.r next-column-reads.Post
 next_column_one κs a x y s t p q = p ∙ sym q
@@ -30,6 +28,3 @@ store_at_one κs a x y s t p q = (refl, p ∙ sym q)
 
 pub column_of_one : OneAnswer 0 column-of-kinds.ps column-of-kinds.r column-of-reads.Post
 column_of_one κs a x y s t p q = p ∙ sym q
-
-pub wide_byte_one : OneAnswer 0 wide-byte-kinds.ps wide-byte-kinds.r wide-byte-reads.Post
-wide_byte_one κs a x y s t p q = p ∙ sym q

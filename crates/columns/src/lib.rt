@@ -21,7 +21,7 @@ pub fn next_column(c: Column) -> Column
 pub fn next_read(page: usize, c: Column) -> Column
     ensures { result ≡ next_read page c }
 {
-    if part::wide_short(c.0) + 1 == page {
+    if usize::from(c.0) + 1 == page {
         return Column(0);
     }
     next_column(c)
@@ -31,18 +31,14 @@ pub fn next_read(page: usize, c: Column) -> Column
 pub fn byte_at(cache: &[u8], c: Column) -> u8
     ensures { result ≡ cache_byte cache.now c }
 {
-    let at = part::wide_short(c.0);
-    if at < cache.len() {
-        return cache[at];
-    }
-    0xFF
+    cache.get(usize::from(c.0)).copied().unwrap_or(0xFF)
 }
 
 // A byte stored at a column of the cache register; one past the page's end is dropped.
 pub fn store_at(cache: &mut [u8], c: Column, b: u8)
     ensures { cache.new ≡ set cache.old c.0 b }
 {
-    let at = part::wide_short(c.0);
+    let at = usize::from(c.0);
     if at < cache.len() {
         cache[at] = b;
     }
@@ -52,12 +48,5 @@ pub fn store_at(cache: &mut [u8], c: Column, b: u8)
 pub fn column_of(high: u8, low: u8) -> Column
     ensures { result ≡ column_of high low }
 {
-    Column(wide_byte(high % 16) * 256 + wide_byte(low))
-}
-
-// A byte as a number of 16 bits.
-pub fn wide_byte(b: u8) -> u16
-    ensures { result ≡ b }
-{
-    b as u16
+    Column(u16::from(high % 16) * 256 + u16::from(low))
 }

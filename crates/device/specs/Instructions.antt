@@ -10,8 +10,7 @@ use Rattle.array.specs.Jobs.{with_cache}
 use Rattle.array.specs.declared.Job.TheVariants.{Read, Program, Erase, Restart}
 use Rattle.array.specs.declared.Work.TheVariants.{Idle}
 use Rattle.reply.specs.Reply.{byte_out}
-use Rattle.requests.specs.Requests.{begins?, program_fate, erase_fate, counted, uncounted}
-use Rattle.requests.specs.declared.Fate.{Fate}
+use Rattle.requests.specs.Requests.{Fate, begins?, program_fate, erase_fate, counted, uncounted}
 use Rattle.device.specs.declared.State.{State}
 use Rattle.device.specs.Machine.{Machine, regs_in, work_in, status_in, with_state, over_bus, over_store, with_status, with_counts}
 use Rattle.device.specs.Work.{Array}

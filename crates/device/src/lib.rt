@@ -2,8 +2,10 @@
 // Document 01, "Instructions" and "Work of the array". Each method takes the state whole and hands the next one back.
 #![tactic(auto)]
 
-ghost use Rattle.std.specs.Prelude.{◌≡◌};
+ghost use Rattle.std.specs.Prelude.{◌≡◌, if◌then◌else◌};
 ghost use Rattle.array.specs.Jobs.{store};
+ghost use Rattle.registers.specs.Registers.{request_cleared};
+ghost use Rattle.requests.specs.Requests.{begins?};
 ghost use Rattle.transfer.specs.Transfer.{selects, with_pins};
 ghost use Rattle.device.specs.Machine.{Machine, on_cache, on_counts, on_store, bus_in, status_in};
 ghost use Rattle.device.specs.Work.{begun, ended_state, units, unitwise, worked_state, WorkReady};
@@ -15,10 +17,11 @@ use array::{Job, Work};
 use codes::Instruction;
 use part::{Geometry, Row};
 use registers::{Pins, Registers};
+use requests::Bar;
 use transfer::{Bus, Transfer};
 
 // The device state: it goes in whole and comes back whole with each event.
-#[derive(Clone, Copy)]
+#[derive(Clone, Copy, Debug, PartialEq, Eq)]
 pub struct State {
     pub regs: Registers,
     pub bus: Bus,
@@ -26,7 +29,7 @@ pub struct State {
 }
 
 // A byte shifted: the next state, and the byte on DO.
-#[derive(Clone, Copy)]
+#[derive(Clone, Copy, Debug, PartialEq, Eq)]
 pub struct Shifted {
     pub state: State,
     pub out: u8,
@@ -39,10 +42,8 @@ impl State {
     {
         State {
             regs: Registers {
-                a0: 0x38,
-                b0: 0x10,
                 c0: 0x01,
-                d0: 0x40,
+                ..Registers::at_power_up()
             },
             bus: Bus {
                 pins: Pins { wp: true },
@@ -56,9 +57,8 @@ impl State {
     pub fn select(self) -> State
         ensures { result ≡ bus_in (selects self.bus) self }
     {
-        let x = self.bus;
         State {
-            bus: x.selects(),
+            bus: self.bus.selects(),
             ..self
         }
     }
@@ -67,25 +67,23 @@ impl State {
     pub fn level(self, pins: Pins) -> State
         ensures { result ≡ bus_in (with_pins pins self.bus) self }
     {
-        let x = self.bus;
         State {
-            bus: Bus { pins: pins, ..x },
+            bus: Bus { pins, ..self.bus },
             ..self
         }
     }
 
     // One byte shifted in on DI, one out on DO.
+    #[tactic(auto, unfolding(crate::specs::Instructions::answer, crate::specs::Instructions::shifts))]
     pub fn shift(self, g: Geometry, b: u8, cache: &mut [u8]) -> Shifted
         ensures { ((m : Machine) → on_cache result.state cache.new m ≡ shifts g b (on_cache self cache.old m)) × (result.out ≡ answer g self cache.old) }
     {
-        let x = self.bus;
-        let r = self.regs;
-        let out = reply::byte_out(g, r, x, &*cache);
-        x.caches(g, b, cache);
-        let y = x.shifted_in(g, registers::oip(r.c0), b);
+        let out = reply::byte_out(g, self.regs, self.bus, &*cache);
+        self.bus.caches(g, b, cache);
+        let bus = self.bus.shifted_in(g, registers::oip(self.regs.c0), b);
         Shifted {
-            state: State { bus: y, ..self },
-            out: out,
+            state: State { bus, ..self },
+            out,
         }
     }
 
@@ -93,9 +91,8 @@ impl State {
     fn with_status(self, c: u8) -> State
         ensures { result ≡ status_in c self }
     {
-        let r = self.regs;
         State {
-            regs: Registers { c0: c, ..r },
+            regs: Registers { c0: c, ..self.regs },
             ..self
         }
     }
@@ -104,87 +101,83 @@ impl State {
     fn begins(self, job: Job) -> State
         ensures { result ≡ begun job self }
     {
-        let r = self.regs;
         State {
-            regs: Registers {
-                c0: registers::oip_set(r.c0),
-                ..r
-            },
             work: Work::Busy(job, 0),
-            ..self
+            ..self.with_status(registers::oip_set(self.regs.c0))
+        }
+    }
+
+    // A request taken up: the operation begins, or the status says that it has failed.
+    fn requested(self, fate: Result<(), Bar>, failed: u8, job: Job) -> State
+        ensures { result ≡ (if begins? fate then begun job (status_in (request_cleared self.regs.c0) self) else status_in failed self) }
+    {
+        match fate {
+            Ok(()) => self
+                .with_status(registers::request_cleared(self.regs.c0))
+                .begins(job),
+            Err(_) => self.with_status(failed),
         }
     }
 
     // 10h with its row.
+    #[tactic(auto, unfolding(crate::specs::Instructions::programs, crate::specs::Work::unitwise))]
     fn programs(self, g: Geometry, row: Row, counts: &mut [u8]) -> State
         ensures { (m : Machine) → on_counts result counts.new m ≡ programs g (unitwise g) row (on_counts self counts.old m) }
     {
-        let r = self.regs;
-        if !registers::wel(r.c0) {
+        if !registers::wel(self.regs.c0) {
             return self;
         }
-        let f = requests::ask_program(g, r.a0, row, counts);
-        if !requests::begins(f) {
-            return self.with_status(registers::program_failed(r.c0));
-        }
-        let s = self.with_status(registers::request_cleared(r.c0));
-        s.begins(Job::Program(row))
+        let fate = requests::ask_program(g, self.regs.a0, row, counts);
+        self.requested(
+            fate,
+            registers::program_failed(self.regs.c0),
+            Job::Program(row),
+        )
     }
 
     // D8h with its row.
+    #[tactic(auto, unfolding(crate::specs::Instructions::erases, crate::specs::Work::unitwise))]
     fn erases(self, g: Geometry, row: Row, counts: &mut [u8]) -> State
         ensures { (m : Machine) → on_counts result counts.new m ≡ erases g (unitwise g) row (on_counts self counts.old m) }
     {
-        let r = self.regs;
-        if !registers::wel(r.c0) {
+        if !registers::wel(self.regs.c0) {
             return self;
         }
-        let f = requests::ask_erase(g, r.a0, row, counts);
-        if !requests::begins(f) {
-            return self.with_status(registers::erase_failed(r.c0));
-        }
-        let s = self.with_status(registers::request_cleared(r.c0));
-        s.begins(Job::Erase(row))
+        let fate = requests::ask_erase(g, self.regs.a0, row, counts);
+        self.requested(fate, registers::erase_failed(self.regs.c0), Job::Erase(row))
     }
 
     // FFh: an operation in progress is stopped after the units done, and the reset's own begins.
     fn resets(self) -> State
         ensures { result ≡ begun Job.Restart (reset_state self) }
     {
-        let r = self.regs;
         let s = State {
-            regs: Registers {
-                c0: registers::reset_status(r.c0),
-                ..r
-            },
             work: Work::Idle,
-            ..self
+            ..self.with_status(registers::reset_status(self.regs.c0))
         };
         s.begins(Job::Restart)
     }
 
     // What the instruction does, its bytes all there.
+    #[tactic(auto, unfolding(crate::specs::Instructions::effect, crate::specs::Instructions::resets, crate::specs::Work::unitwise))]
     fn effect(self, g: Geometry, counts: &mut [u8]) -> State
         ensures { (m : Machine) → on_counts result counts.new m ≡ effect g (unitwise g) self.bus.transfer.instruction (on_counts self counts.old m) }
     {
-        let r = self.regs;
-        let x = self.bus;
-        let t = x.transfer;
-        let i = t.instruction;
-        match i {
-            Instruction::WriteEnable => self.with_status(registers::wel_set(r.c0)),
-            Instruction::WriteDisable => self.with_status(registers::wel_cleared(r.c0)),
+        let t = self.bus.transfer;
+        match t.instruction {
+            Instruction::WriteEnable => self.with_status(registers::wel_set(self.regs.c0)),
+            Instruction::WriteDisable => self.with_status(registers::wel_cleared(self.regs.c0)),
             Instruction::SetFeature => self.writes(g),
             Instruction::PageRead => self.begins(Job::Read(t.row())),
             Instruction::Execute => self.programs(g, t.row(), counts),
             Instruction::BlockErase => self.erases(g, t.row(), counts),
             Instruction::Reset => self.resets(),
-            Instruction::Ignored => self,
-            Instruction::GetFeature => self,
-            Instruction::ReadId => self,
-            Instruction::ReadCache => self,
-            Instruction::Load => self,
-            Instruction::LoadRandom => self,
+            Instruction::Ignored
+            | Instruction::GetFeature
+            | Instruction::ReadId
+            | Instruction::ReadCache
+            | Instruction::Load
+            | Instruction::LoadRandom => self,
         }
     }
 
@@ -192,51 +185,48 @@ impl State {
     fn writes(self, g: Geometry) -> State
         ensures { result ≡ written_state g self }
     {
-        let r = self.regs;
-        let x = self.bus;
-        let t = x.transfer;
-        let p = x.pins;
+        let t = self.bus.transfer;
         State {
-            regs: r.written(g, p, t.first, t.second),
+            regs: self.regs.written(g, self.bus.pins, t.first, t.second),
             ..self
         }
     }
 
     // The instruction acts if exactly its bytes were shifted.
+    #[tactic(auto, unfolding(crate::specs::Instructions::acted))]
     fn acts(self, g: Geometry, counts: &mut [u8]) -> State
         ensures { (m : Machine) → on_counts result counts.new m ≡ acted g (unitwise g) (on_counts self counts.old m) }
     {
-        let x = self.bus;
-        let t = x.transfer;
-        if t.full() {
+        if self.bus.transfer.full() {
             return self.effect(g, counts);
         }
         self
     }
 
     // Chip select rises.
+    #[tactic(auto, unfolding(crate::specs::Instructions::deselects))]
     pub fn deselect(self, g: Geometry, counts: &mut [u8]) -> State
         ensures { (m : Machine) → on_counts result counts.new m ≡ deselects g (unitwise g) (on_counts self counts.old m) }
     {
-        let x = self.bus;
-        let t = x.transfer;
-        if !t.selected {
+        if !self.bus.transfer.selected {
             return self;
         }
         let s = self.acts(g, counts);
-        let y = s.bus;
-        State { bus: y.ends(), ..s }
+        State {
+            bus: s.bus.ends(),
+            ..s
+        }
     }
 
     // Power lost and back.
+    #[tactic(auto, unfolding(crate::specs::Work::unitwise, crate::specs::Step::off, crate::specs::Step::powered))]
     pub fn power(self, g: Geometry, cache: &mut [u8]) -> State
         ensures { (m : Machine) → on_cache result cache.new m ≡ powered g (unitwise g) (on_cache self cache.old m) }
     {
-        part::fill(cache, 0xFF);
-        let x = self.bus;
+        cache.fill(0xFF);
         let s = State {
             regs: Registers::at_power_up(),
-            bus: x.ends(),
+            bus: self.bus.ends(),
             work: Work::Idle,
         };
         s.begins(Job::Read(Row(0)))
@@ -246,14 +236,9 @@ impl State {
     fn ended(self, job: Job) -> State
         ensures { result ≡ ended_state job self }
     {
-        let r = self.regs;
         State {
-            regs: Registers {
-                c0: registers::oip_cleared(r.c0),
-                ..r
-            },
             work: Work::Idle,
-            ..self
+            ..self.with_status(registers::oip_cleared(self.regs.c0))
         }
     }
 
@@ -275,8 +260,7 @@ impl State {
         requires { WorkReady g self.work (store cells.old cache.old) }
         ensures { (m : Machine) → on_store result cells.new cache.new m ≡ units g n (on_store self cells.old cache.old m) }
     {
-        let w = self.work;
-        match w {
+        match self.work {
             Work::Idle => self,
             Work::Busy(job, done) => {
                 let next = array::advance(g, job, done, n, cells, cache);
@@ -286,22 +270,13 @@ impl State {
     }
 
     // Whether the state is sound for a part.
+    #[tactic(auto, unfolding(crate::specs::Sound::sound_state))]
     pub fn sound(self, g: Geometry) -> bool
         ensures { result ≡ sound_state g self }
     {
-        let r = self.regs;
-        let x = self.bus;
-        let t = x.transfer;
-        let w = self.work;
-        if !soundness::registers_sound(g, r) {
-            return false;
-        }
-        if !soundness::transfer_sound(t) {
-            return false;
-        }
-        if !soundness::work_sound(g, r.c0, w) {
-            return false;
-        }
-        soundness::calm(r.c0, t)
+        soundness::registers_sound(g, self.regs)
+            && soundness::transfer_sound(self.bus.transfer)
+            && soundness::work_sound(g, self.regs.c0, self.work)
+            && soundness::calm(self.regs.c0, self.bus.transfer)
     }
 }

@@ -19,8 +19,7 @@ use Rattle.array.specs.declared.Work.TheVariants.{Idle}
 use Rattle.soundness.specs.Soundness.{HighSound}
 use Rattle.device.specs.Machine.{Machine, with_status, with_work, with_counts}
 use Rattle.device.specs.Work.{begins, unitwise}
-use Rattle.requests.specs.declared.Fate.{Fate}
-use Rattle.requests.specs.Requests.{begins?, program_fate, erase_fate, counted, uncounted}
+use Rattle.requests.specs.Requests.{Fate, begins?, program_fate, erase_fate, counted, uncounted}
 use Rattle.requests.proofs.Fates.{erase_inside, program_begins}
 use Rattle.device.specs.Instructions.{requested, programs, erases, resets, effect, acted}
 use Rattle.kept.proofs.Masks.{written_in_masks}

@@ -6,7 +6,8 @@ ghost use Rattle.registers.specs.Registers.{oip, wel, oip_set, oip_cleared, wel_
 
 use part::{Geometry, Stepping};
 
-#[derive(Clone, Copy)]
+// The four registers.
+#[derive(Clone, Copy, Debug, PartialEq, Eq)]
 pub struct Registers {
     pub a0: u8,
     pub b0: u8,
@@ -15,7 +16,7 @@ pub struct Registers {
 }
 
 // The levels of the pins.
-#[derive(Clone, Copy)]
+#[derive(Clone, Copy, Debug, PartialEq, Eq)]
 pub struct Pins {
     pub wp: bool,
 }
@@ -34,6 +35,7 @@ impl Registers {
     }
 
     // The register at an address.
+    #[tactic(auto, unfolding(crate::specs::Registers::register))]
     pub fn read(self, at: u8) -> u8
         ensures { result ≡ register self at }
     {
@@ -50,23 +52,19 @@ impl Registers {
     fn locked(self, pins: Pins) -> bool
         ensures { result ≡ locked self pins }
     {
-        if self.a0 / 128 == 1 { !pins.wp } else { false }
+        self.a0 / 128 == 1 && !pins.wp
     }
 
     // The register at an address written through its mask.
+    #[tactic(auto, unfolding(crate::specs::Registers::register_written))]
     pub fn written(self, g: Geometry, pins: Pins, at: u8, value: u8) -> Registers
         ensures { result ≡ register_written g pins at value self }
     {
         match at {
-            0xA0 => {
-                if self.locked(pins) {
-                    return self;
-                }
-                Registers {
-                    a0: value & a0_mask(g),
-                    ..self
-                }
-            }
+            0xA0 if !self.locked(pins) => Registers {
+                a0: value & a0_mask(g),
+                ..self
+            },
             0xB0 => Registers {
                 b0: value & 0x11,
                 ..self
@@ -84,14 +82,13 @@ impl Registers {
 pub fn a0_mask(g: Geometry) -> u8
     ensures { result ≡ a0_mask g }
 {
-    let s = g.stepping;
-    match s {
+    match g.stepping {
         Stepping::First => 0xBC,
         Stepping::Second => 0xBE,
     }
 }
 
-// The bits of the status register C0h.
+// The bits of the status register C0h: a function for each thing that document 01 does to them, as the definitions of specs/ have it.
 pub fn oip(c: u8) -> bool
     ensures { result ≡ oip c }
 {

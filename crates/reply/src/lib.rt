@@ -4,6 +4,7 @@
 ghost use Rattle.std.specs.Prelude.{◌≡◌};
 ghost use Rattle.reply.specs.Reply.{byte_out};
 
+use codes::Instruction;
 use part::Geometry;
 use registers::Registers;
 use transfer::Bus;
@@ -16,28 +17,11 @@ pub fn byte_out(g: Geometry, regs: Registers, bus: Bus, cache: &[u8]) -> u8
         return 0xFF;
     }
     let t = bus.transfer;
-    let n = t.count;
-    if t.is(0x0F) {
-        if n < 2 {
-            return 0xFF;
-        }
-        return regs.read(t.first);
+    match t.instruction {
+        Instruction::GetFeature if 2 <= t.count => regs.read(t.first),
+        Instruction::ReadId if t.count == 2 => g.id0,
+        Instruction::ReadId if t.count == 3 => g.id1,
+        Instruction::ReadCache if 4 <= t.count => columns::byte_at(cache, t.column),
+        _ => 0xFF,
     }
-    if t.is(0x9F) {
-        if n == 2 {
-            return g.id0;
-        }
-        if n == 3 {
-            return g.id1;
-        }
-        return 0xFF;
-    }
-    if t.is(0x03) {
-        if n < 4 {
-            return 0xFF;
-        }
-        let c = t.column;
-        return columns::byte_at(cache, c);
-    }
-    0xFF
 }

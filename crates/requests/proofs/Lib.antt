@@ -1,3 +1,2 @@
 pub mod Fates
-pub mod Stretch
 pub mod OneAnswer

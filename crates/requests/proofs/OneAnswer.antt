@@ -3,10 +3,7 @@ use mathlib.Core.List.{List}
 use mathlib.Core.Path.{◌∙◌, sym, ap}
 use Prim.Native.Nat.{ℕ}
 use Rattle.part.specs.OneAnswer.{OneAnswer, OneEnd}
-use Rattle.requests.specs.declared.Fate.{Fate}
-use Rattle.requests.specs.Requests.{counted, uncounted, counts_after}
-use Rattle.requests.proofs.begins.Reads as begins-reads
-use Rattle.requests.proofs.begins.Kinds as begins-kinds
+use Rattle.requests.specs.Requests.{Fate, counted, uncounted, counts_after}
 use Rattle.requests.proofs.erase_fate.Reads as erase-fate-reads
 use Rattle.requests.proofs.erase_fate.Kinds as erase-fate-kinds
 use Rattle.requests.proofs.used.Reads as used-reads
@@ -17,9 +14,6 @@ use Rattle.requests.proofs.ask_program.Reads as ask-program-reads
 use Rattle.requests.proofs.ask_program.Kinds as ask-program-kinds
 use Rattle.requests.proofs.ask_erase.Reads as ask-erase-reads
 use Rattle.requests.proofs.ask_erase.Kinds as ask-erase-kinds
-
-pub begins_one : OneAnswer 0 begins-kinds.ps begins-kinds.r begins-reads.Post
-begins_one κs a x y s t p q = p ∙ sym q
 
 pub erase_fate_one : OneAnswer 0 erase-fate-kinds.ps erase-fate-kinds.r erase-fate-reads.Post
 erase_fate_one κs a x y s t p q = p ∙ sym q

@@ -6,6 +6,7 @@ ghost use Rattle.array.specs.Jobs.{length_of};
 ghost use Rattle.soundness.specs.Soundness.{registers_sound, transfer_sound, work_sound, in_array, calm};
 
 use array::{Job, Work};
+use codes::Instruction;
 use part::Geometry;
 use registers::Registers;
 use transfer::Transfer;
@@ -14,27 +15,17 @@ use transfer::Transfer;
 pub fn registers_sound(g: Geometry, regs: Registers) -> bool
     ensures { result ≡ registers_sound g regs }
 {
-    if regs.a0 & registers::a0_mask(g) != regs.a0 {
-        return false;
-    }
-    if regs.b0 & 0x11 != regs.b0 {
-        return false;
-    }
-    if regs.d0 & 0x60 != regs.d0 {
-        return false;
-    }
-    regs.c0 / 16 == 0
+    regs.a0 & registers::a0_mask(g) == regs.a0
+        && regs.b0 & 0x11 == regs.b0
+        && regs.d0 & 0x60 == regs.d0
+        && regs.c0 / 16 == 0
 }
 
 // Whether a transfer's count is at most 5, and its next column at most 4,096.
 pub fn transfer_sound(t: Transfer) -> bool
     ensures { result ≡ transfer_sound t }
 {
-    let c = t.column;
-    if 5 < t.count {
-        return false;
-    }
-    c.0 <= 4096
+    t.count <= 5 && t.column.0 <= 4096
 }
 
 // Whether OIP is 1 exactly when an operation is in progress, and that is sound.
@@ -43,15 +34,7 @@ pub fn work_sound(g: Geometry, c: u8, w: Work) -> bool
 {
     match w {
         Work::Idle => !registers::oip(c),
-        Work::Busy(job, done) => {
-            if !registers::oip(c) {
-                return false;
-            }
-            if !unit_left(g, job, done) {
-                return false;
-            }
-            in_array(g, job)
-        }
+        Work::Busy(job, done) => registers::oip(c) && unit_left(g, job, done) && in_array(g, job),
     }
 }
 
@@ -63,12 +46,7 @@ fn unit_left(g: Geometry, job: Job, done: usize) -> bool
     match job {
         Job::Read(_) => done < p,
         Job::Program(_) => done < p,
-        Job::Erase(_) => {
-            if p == 0 {
-                return false;
-            }
-            done / p < part::wide(g.pages)
-        }
+        Job::Erase(_) => p != 0 && done / p < g.pages as usize,
         Job::Restart => done < array::RESTART_UNITS,
     }
 }
@@ -79,8 +57,8 @@ fn in_array(g: Geometry, job: Job) -> bool
 {
     match job {
         Job::Read(_) => true,
-        Job::Program(row) => part::wide_short(row.0) < g.rows(),
-        Job::Erase(row) => part::wide_short(row.0) < g.rows(),
+        Job::Program(row) => usize::from(row.0) < g.rows(),
+        Job::Erase(row) => usize::from(row.0) < g.rows(),
         Job::Restart => true,
     }
 }
@@ -89,23 +67,14 @@ fn in_array(g: Geometry, job: Job) -> bool
 pub fn calm(c: u8, t: Transfer) -> bool
     ensures { result ≡ calm c t }
 {
-    if !registers::oip(c) {
-        return true;
-    }
-    if !t.selected {
-        return true;
-    }
-    if t.count == 0 {
-        return true;
-    }
-    if t.is(0x0F) {
-        return true;
-    }
-    if t.is(0x9F) {
-        return true;
-    }
-    if t.is(0xFF) {
-        return true;
-    }
-    t.is(codes::NO_BYTE)
+    !registers::oip(c)
+        || !t.selected
+        || t.count == 0
+        || matches!(
+            t.instruction,
+            Instruction::GetFeature
+                | Instruction::ReadId
+                | Instruction::Reset
+                | Instruction::Ignored
+        )
 }

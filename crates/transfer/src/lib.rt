@@ -10,7 +10,7 @@ use registers::Pins;
 
 // A transfer, from select to deselect: the count of its bytes (5 stands for more), the instruction, the three bytes after
 // it as they came, and the next column.
-#[derive(Clone, Copy)]
+#[derive(Clone, Copy, Debug, PartialEq, Eq)]
 pub struct Transfer {
     pub selected: bool,
     pub count: u8,
@@ -22,7 +22,7 @@ pub struct Transfer {
 }
 
 // What the bus changes and the array never reads.
-#[derive(Clone, Copy)]
+#[derive(Clone, Copy, Debug, PartialEq, Eq)]
 pub struct Bus {
     pub pins: Pins,
     pub transfer: Transfer,
@@ -48,50 +48,43 @@ impl Transfer {
     pub fn is(self, byte: u16) -> bool
         ensures { result ≡ is self byte }
     {
-        let i = self.instruction;
-        codes::byte_of(i) == byte
+        codes::byte_of(self.instruction) == byte
     }
 
     // Whether exactly the instruction's bytes were shifted.
     pub fn full(self) -> bool
         ensures { result ≡ full self }
     {
-        let i = self.instruction;
-        self.count == codes::form_bytes(i)
+        self.count == codes::form_bytes(self.instruction)
     }
 
     // The row address.
     pub fn row(self) -> Row
         ensures { result ≡ row_of self }
     {
-        Row(columns::wide_byte(self.second) * 256 + columns::wide_byte(self.third))
+        Row(u16::from(self.second) * 256 + u16::from(self.third))
     }
 
-    // The bytes before the first one that moves the column on, or 0 for an instruction without a column.
+    // The bytes before the first one that moves the column on, or 0 for an instruction without a column. (Its definition in specs/ has
+    // this 0, and may not change.)
     fn column_bytes(self) -> u8
         ensures { result ≡ column_bytes self }
     {
-        if self.is(0x03) {
-            return 4;
+        match self.instruction {
+            Instruction::ReadCache => 4,
+            Instruction::Load | Instruction::LoadRandom => 3,
+            _ => 0,
         }
-        if self.is(0x02) {
-            return 3;
-        }
-        if self.is(0x84) {
-            return 3;
-        }
-        0
     }
 
     // The next column after a byte that moves it on: a read goes round the page, a load on past its end.
     fn column_on(self, g: Geometry) -> Column
         ensures { result ≡ column_on g self }
     {
-        let c = self.column;
-        if self.is(0x03) {
-            return columns::next_read(g.page(), c);
+        match self.instruction {
+            Instruction::ReadCache => columns::next_read(g.page(), self.column),
+            _ => columns::next_column(self.column),
         }
-        columns::next_column(c)
     }
 
     // The next column after a byte.
@@ -99,9 +92,8 @@ impl Transfer {
         ensures { result ≡ column_after g b self }
     {
         let k = self.column_bytes();
-        let c = self.column;
         if k == 0 {
-            return c;
+            return self.column;
         }
         if self.count == 2 {
             return columns::column_of(self.first, b);
@@ -109,18 +101,16 @@ impl Transfer {
         if k <= self.count {
             return self.column_on(g);
         }
-        c
+        self.column
     }
 
     // A byte of data stored at the column; one past the page's end is dropped.
     fn stores(self, b: u8, cache: &mut [u8])
         ensures { cache.new ≡ stored b self cache.old }
     {
-        let c = self.column;
-        if self.count < 3 {
-            return;
+        if 3 <= self.count {
+            columns::store_at(cache, self.column, b);
         }
-        columns::store_at(cache, c, b);
     }
 
     // The first byte is the instruction.
@@ -138,48 +128,27 @@ impl Transfer {
     fn later(self, g: Geometry, b: u8) -> Transfer
         ensures { result ≡ later g b self }
     {
-        let c = self.column_after(g, b);
-        let n = self.count;
-        match n {
-            1 => Transfer {
-                count: 2,
-                first: b,
-                column: c,
-                ..self
-            },
-            2 => Transfer {
-                count: 3,
-                second: b,
-                column: c,
-                ..self
-            },
-            3 => Transfer {
-                count: 4,
-                third: b,
-                column: c,
-                ..self
-            },
-            0 => Transfer {
-                count: 1,
-                column: c,
-                ..self
-            },
-            _ => Transfer {
-                count: 5,
-                column: c,
-                ..self
-            },
+        let next = Transfer {
+            count: self.count.min(4) + 1,
+            column: self.column_after(g, b),
+            ..self
+        };
+        match self.count {
+            1 => Transfer { first: b, ..next },
+            2 => Transfer { second: b, ..next },
+            3 => Transfer { third: b, ..next },
+            _ => next,
         }
     }
 }
 
 impl Bus {
     // Chip select falls.
+    #[tactic(auto, unfolding(crate::specs::Transfer::selects))]
     pub fn selects(self) -> Bus
         ensures { result ≡ selects self }
     {
-        let t = self.transfer;
-        if t.selected {
+        if self.transfer.selected {
             return self;
         }
         Bus {
@@ -202,36 +171,31 @@ impl Bus {
     pub fn heard(self) -> bool
         ensures { result ≡ heard self }
     {
-        let t = self.transfer;
-        t.selected
+        self.transfer.selected
     }
 
     // One byte shifted in.
+    #[tactic(auto, unfolding(crate::specs::Transfer::shifted_in))]
     pub fn shifted_in(self, g: Geometry, busy: bool, b: u8) -> Bus
         ensures { result ≡ shifted_in g busy b self }
     {
-        let t = self.transfer;
         if !self.heard() {
             return self;
         }
-        if t.count == 0 {
-            return Bus {
-                transfer: t.instructed(busy, b),
-                ..self
-            };
-        }
-        Bus {
-            transfer: t.later(g, b),
-            ..self
-        }
+        let t = self.transfer;
+        let transfer = if t.count == 0 {
+            t.instructed(busy, b)
+        } else {
+            t.later(g, b)
+        };
+        Bus { transfer, ..self }
     }
 
     // Whether a byte shifted now comes after the instruction, and is heard.
     pub fn body_heard(self) -> bool
         ensures { result ≡ body_heard self }
     {
-        let t = self.transfer;
-        if self.heard() { t.count != 0 } else { false }
+        self.heard() && self.transfer.count != 0
     }
 
     // What one byte shifted in does to the cache register.
@@ -243,16 +207,10 @@ impl Bus {
             return;
         }
         let t = self.transfer;
-        if t.is(0x02) {
-            if t.count == 2 {
-                part::fill(cache, 0xFF);
-                return;
-            }
-            t.stores(b, cache);
-            return;
-        }
-        if t.is(0x84) {
-            t.stores(b, cache);
+        match t.instruction {
+            Instruction::Load if t.count == 2 => cache.fill(0xFF),
+            Instruction::Load | Instruction::LoadRandom => t.stores(b, cache),
+            _ => {}
         }
     }
 }
