@@ -6,6 +6,7 @@ use native.Mathlib.Omega.{arith}
 use lib.Dec.{T, eqb}
 use lib.ListN.{length}
 use borrow.Author.Tests.{eqb-true, eqb-false, eq-eqb, ne_eqb, not-true, not-false}
+use Rattle.std.specs.Prelude.{Result}
 use Rattle.part.specs.Part.{page, rows, Sound, sound_part}
 use Rattle.part.specs.declared.Geometry.{Geometry}
 use Rattle.part.proofs.Choice.{cond_keep, T_true, true_T}
@@ -13,7 +14,7 @@ use Rattle.part.proofs.Laws as Laws
 use Rattle.device.specs.Machine.{Machine}
 use Rattle.device.specs.Sound.{SoundState, sound_state}
 use Rattle.kept.proofs.Exactly as Exactly
-use Rattle.refusals.specs.Refusals.{check_of, passed, checked_as}
+use Rattle.refusals.specs.Refusals.{check_of, line_of, passed, checked_as}
 use Rattle.refusals.specs.declared.Refusal.{Refusal}
 use Rattle.refusals.specs.declared.Refusal.TheVariants.{Done, BadPart, BadCells, BadCache, BadCounts, BadState, BadKind, ShortBody, BadLevel, NoRoom}
 use Rattle.answers.specs.Table.{CellsFit, CacheFits, CountsFit, Fine}
@@ -44,23 +45,27 @@ module _ (g : Geometry) (m : Machine) where
   Checked BadLevel = ⊥
   Checked NoRoom = ⊥
 
+  -- the same of what a check answers
+  abbrev Answered : Result Unit Refusal → Type 0
+  Answered x = Checked (line_of x)
+
   -- it is so for the answer that they give
   pub checked : Checked (checked_as g m)
   unfolding check_of
   checked =
-      cond_keep Checked (not (sound_part g)) (λ e s. false_not_T (sound_part g) (not-true _ e) ((Laws.sound_exactly g).1 s))
+      cond_keep Answered (not (sound_part g)) (λ e s. false_not_T (sound_part g) (not-true _ e) ((Laws.sound_exactly g).1 s))
       (λ e.
       let part : Sound g = (Laws.sound_exactly g).0 (true_T (sound_part g) (not-false _ e)) in
-      cond_keep Checked (not (eqb (length m.store.cells) (rows g * page g))) (λ e. (part, eqb-false _ _ (not-true _ e)))
+      cond_keep Answered (not (eqb (length m.store.cells) (rows g * page g))) (λ e. (part, eqb-false _ _ (not-true _ e)))
       (λ e.
       let cells : CellsFit g m = record { part = part; cells = eqb-true _ _ (not-false _ e) } in
-      cond_keep Checked (not (eqb (length m.store.cache) (page g))) (λ e. (cells, eqb-false _ _ (not-true _ e)))
+      cond_keep Answered (not (eqb (length m.store.cache) (page g))) (λ e. (cells, eqb-false _ _ (not-true _ e)))
       (λ e.
       let cache : CacheFits g m = record { before = cells; cache = eqb-true _ _ (not-false _ e) } in
-      cond_keep Checked (not (eqb (length m.counts) (rows g))) (λ e. (cache, eqb-false _ _ (not-true _ e)))
+      cond_keep Answered (not (eqb (length m.counts) (rows g))) (λ e. (cache, eqb-false _ _ (not-true _ e)))
       (λ e.
       let counts : CountsFit g m = record { before = cache; counts = eqb-true _ _ (not-false _ e) } in
-      cond_keep Checked (not (sound_state g m.state)) (λ e. (counts, λ s. false_not_T (sound_state g m.state) (not-true _ e) ((Exactly.sound_exactly g m.state).1 s)))
+      cond_keep Answered (not (sound_state g m.state)) (λ e. (counts, λ s. false_not_T (sound_state g m.state) (not-true _ e) ((Exactly.sound_exactly g m.state).1 s)))
       (λ e. record { before = counts; state = (Exactly.sound_exactly g m.state).0 (true_T (sound_state g m.state) (not-false _ e)) })))))
 
   part_yes : Sound g → sound_part g ≡ true

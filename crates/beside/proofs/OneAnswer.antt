@@ -38,4 +38,4 @@ pub work_one : OneEnd 3 work-kinds.ps work-kinds.r Lent (λ κs s. lent s.1.1.1.
 work_one κs a x y s t p q = (ap (λ (e : model.End). e.answer) (p ∙ sym q), ap (λ (e : model.End). lent e.cells e.cache e.counts) (p ∙ sym q))
 
 pub blank_one : OneEnd 3 blank-kinds.ps blank-kinds.r Lent (λ κs s. lent s.1.0.now s.1.1.0.now s.1.1.1.0.now) blank-reads.Post
-blank_one κs a x y s t p q = (ap (λ (e : Blanked). e.refusal) (p ∙ sym q), ap (λ (e : Blanked). lent e.cells e.cache e.counts) (p ∙ sym q))
+blank_one κs a x y s t p q = (ap (λ (e : Blanked). e.answer) (p ∙ sym q), ap (λ (e : Blanked). lent e.cells e.cache e.counts) (p ∙ sym q))

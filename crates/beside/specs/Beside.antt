@@ -1,5 +1,5 @@
 -- Beside a run: the next byte on DO, the units left of an operation, work of any length, and memory that was never used.
-use Rattle.std.specs.Prelude.{◌&&◌, List, [], ◌∷◌, ℕ, ◌-◌, ◌*◌, length, replicate, if◌then◌else◌}
+use Rattle.std.specs.Prelude.{Result, Ok, Err, ◌&&◌, List, [], ◌∷◌, ℕ, ◌-◌, ◌*◌, length, replicate, if◌then◌else◌}
 use Rattle.part.specs.Part.{page, rows, sound_part}
 use Rattle.part.specs.declared.Geometry.{Geometry}
 use Rattle.buslog.specs.declared.Record.TheVariants.{Units}
@@ -17,21 +17,21 @@ use Rattle.refusals.specs.Refusals.{check_of, passed, checked_as}
 use Rattle.refusals.specs.declared.Refusal.{Refusal}
 use Rattle.refusals.specs.declared.Refusal.TheVariants.{Done}
 use Rattle.model.specs.Runs.{Outcome, did}
-use Rattle.beside.specs.declared.Peeked.{Peeked}
 
 -- ---- the next byte
 
--- a refusal and a byte
-abbrev pub peeked : Refusal → ℕ → Peeked
-peeked r b = record { refusal = r; byte = b }
-
 -- part, cache register and state are checked as before a run; cells and page counts are not lent, and count as those of the part
-abbrev pub peek_check : Geometry → State → List ℕ → Refusal
+abbrev pub peek_check : Geometry → State → List ℕ → Result Unit Refusal
 peek_check g s cache = check_of g s (rows g * page g) (length cache) (rows g)
 
--- the byte that a shift puts on DO; FFh where it is refused
-unfoldable pub peek_of : Geometry → State → List ℕ → Peeked
-peek_of g s cache = if passed (peek_check g s cache) then peeked Done (answer g s cache) else peeked (peek_check g s cache) 0xFF
+-- a byte, where a check refuses nothing
+abbrev pub byte_after : Result Unit Refusal → ℕ → Result ℕ Refusal
+byte_after (Ok u) b = Ok b
+byte_after (Err r) b = Err r
+
+-- the byte that a shift puts on DO, or why it is refused
+unfoldable pub peek_of : Geometry → State → List ℕ → Result ℕ Refusal
+peek_of g s cache = byte_after (peek_check g s cache) (answer g s cache)
 
 -- ---- the units of an operation
 
@@ -56,23 +56,26 @@ work_of g arr n m = if passed (checked_as g m) then did g arr m Done (Units n �
 
 -- ---- memory that was never used
 
--- a refusal, and the lent memory
+-- the answer, and the lent memory
 pub record Blanked : Type 0 where
-  pub refusal : Refusal
+  pub answer : Result Unit Refusal
   pub cells : List ℕ
   pub cache : List ℕ
   pub counts : List ℕ
 
 -- the four together
-abbrev pub blank_end : Refusal → List ℕ → List ℕ → List ℕ → Blanked
-blank_end r cells cache counts = record { refusal = r; cells = cells; cache = cache; counts = counts }
+abbrev pub blank_end : Result Unit Refusal → List ℕ → List ℕ → List ℕ → Blanked
+blank_end x cells cache counts = record { answer = x; cells = cells; cache = cache; counts = counts }
 
 -- what a run from power-up would refuse
-abbrev pub blank_check : Geometry → List ℕ → List ℕ → List ℕ → Refusal
+abbrev pub blank_check : Geometry → List ℕ → List ℕ → List ℕ → Result Unit Refusal
 blank_check g cells cache counts = check_of g power_up (length cells) (length cache) (length counts)
 
--- cells and cache register FFh, page counts 0; where it is refused not a byte changed
+-- after a check: cells and cache register FFh, page counts 0; where it refuses not a byte changed
+abbrev pub blank_after : Result Unit Refusal → List ℕ → List ℕ → List ℕ → Blanked
+blank_after (Ok u) cells cache counts = blank_end (Ok u) (replicate (length cells) 0xFF) (replicate (length cache) 0xFF) (replicate (length counts) 0)
+blank_after (Err r) cells cache counts = blank_end (Err r) cells cache counts
+
+-- the memory of a device that was never used
 unfoldable pub blank_of : Geometry → List ℕ → List ℕ → List ℕ → Blanked
-blank_of g cells cache counts =
-    if passed (blank_check g cells cache counts) then blank_end Done (replicate (length cells) 0xFF) (replicate (length cache) 0xFF) (replicate (length counts) 0)
-    else blank_end (blank_check g cells cache counts) cells cache counts
+blank_of g cells cache counts = blank_after (blank_check g cells cache counts) cells cache counts

@@ -1,6 +1,6 @@
 -- What is promised beside a run: the next byte is the one that comes, the units left say when the array is ready, work adds up, and blank
 -- memory is ready for a run.
-use Rattle.std.specs.Prelude.{true, not, List, [], ◌∷◌, ◌≡◌, ℕ, suc, ◌+◌, ◌-◌, ◌*◌, eqb, ltb, length, if◌then◌else◌}
+use Rattle.std.specs.Prelude.{Ok, true, not, List, [], ◌∷◌, ◌≡◌, ℕ, suc, ◌+◌, ◌-◌, ◌*◌, eqb, ltb, length, if◌then◌else◌}
 use Rattle.part.specs.Part.{page, rows, sound_part}
 use Rattle.part.specs.declared.Geometry.{Geometry}
 use Rattle.buslog.specs.Log.{bytes_of, written}
@@ -12,7 +12,7 @@ use Rattle.device.specs.Work.{Array, units, unitwise}
 use Rattle.device.specs.Step.{power_up}
 use Rattle.device.specs.Sound.{sound_state}
 use Rattle.device.specs.declared.State.{State}
-use Rattle.refusals.specs.Refusals.{number_of, passed, checked_as}
+use Rattle.refusals.specs.Refusals.{number_of, line_of, passed, checked_as}
 use Rattle.refusals.specs.declared.Refusal.TheVariants.{Done}
 use Rattle.model.specs.Runs.{run_of}
 use Rattle.beside.specs.Beside.{peek_of, units_left, work_of, blank_of}
@@ -23,17 +23,17 @@ use Rattle.beside.specs.Beside.{peek_of, units_left, work_of, blank_of}
 abbrev pub PeekExactly : Type 0
 PeekExactly =
     (g : Geometry) (s : State) (cache : List ℕ) →
-    number_of (peek_of g s cache).refusal
+    number_of (line_of (peek_of g s cache))
     ≡ (if not (sound_part g) then 1
     else if not (eqb (length cache) (page g)) then 3
     else if not (sound_state g s) then 5
     else 0)
 
--- whatever byte is shifted in next, the byte that the run then puts out is the one told
+-- where a run is not refused a byte is told; whatever byte is shifted in next, the byte that the run then puts out is that one
 abbrev pub NextByte : Type 0
 NextByte =
     (g : Geometry) (arr : Array) (m : Machine) (b room : ℕ) → passed (checked_as g m) ≡ true →
-    (run_of g arr (suc room) (bytes_of (Shift b)) m).output ≡ (peek_of g m.state m.store.cache).byte ∷ []
+    (x : ℕ) × (peek_of g m.state m.store.cache ≡ Ok x) × ((run_of g arr (suc room) (bytes_of (Shift b)) m).output ≡ x ∷ [])
 
 -- ---- the units left
 
@@ -75,7 +75,7 @@ WorkOne = (g : Geometry) (m : Machine) (room n : ℕ) → run_of g (unitwise g) 
 abbrev pub BlankExactly : Type 0
 BlankExactly =
     (g : Geometry) (cells cache counts : List ℕ) →
-    number_of (blank_of g cells cache counts).refusal
+    number_of (line_of (blank_of g cells cache counts).answer)
     ≡ (if not (sound_part g) then 1
     else if not (eqb (length cells) (rows g * page g)) then 2
     else if not (eqb (length cache) (page g)) then 3
@@ -85,6 +85,6 @@ BlankExactly =
 -- and a run from power-up on it is not refused
 abbrev pub BlankReady : Type 0
 BlankReady =
-    (g : Geometry) (cells cache counts : List ℕ) → passed (blank_of g cells cache counts).refusal ≡ true →
+    (g : Geometry) (cells cache counts : List ℕ) → passed (line_of (blank_of g cells cache counts).answer) ≡ true →
     let b = blank_of g cells cache counts in
     checked_as g (machine power_up b.cells b.cache b.counts) ≡ Done

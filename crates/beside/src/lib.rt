@@ -1,4 +1,5 @@
 // Beside a run: what a simulator asks and does between events. The next byte on DO, the units left, work of any length, blank memory.
+// Buffers are lent one by one: `walk` says why.
 #![tactic(auto)]
 
 ghost use Rattle.std.specs.Prelude.{[], ◌≡◌};
@@ -13,39 +14,18 @@ use part::Geometry;
 use refusals::Refusal;
 use walk::{Answer, Walk};
 
-// The byte that the next shift puts out, or why there is none to tell.
-#[derive(Clone, Copy)]
-pub struct Peeked {
-    pub refusal: Refusal,
-    pub byte: u8,
-}
-
-// The byte that the next shift will put on DO, whatever is shifted in.
-pub fn peek(g: Geometry, state: State, cache: &[u8]) -> Peeked
+// The byte that the next shift will put on DO, whatever is shifted in; or why there is none to tell.
+pub fn peek(g: Geometry, state: State, cache: &[u8]) -> Result<u8, Refusal>
     ensures { result ≡ peek_of g state cache.now }
 {
     if !g.sound() {
-        return Peeked {
-            refusal: Refusal::BadPart,
-            byte: 0xFF,
-        };
+        return Err(Refusal::BadPart);
     }
-    let k = refusals::check(g, state, g.rows() * g.page(), cache.len(), g.rows());
-    if !refusals::passes(k) {
-        return Peeked {
-            refusal: k,
-            byte: 0xFF,
-        };
-    }
-    let r = state.regs;
-    let x = state.bus;
-    Peeked {
-        refusal: Refusal::Done,
-        byte: reply::byte_out(g, r, x, cache),
-    }
+    refusals::check(g, state, g.rows() * g.page(), cache.len(), g.rows())?;
+    Ok(reply::byte_out(g, state.regs, state.bus, cache))
 }
 
-// How many units an operation has on a part; 0 on a part that is not sound.
+// How many units an operation has on a part; 0 on a part that is not sound. A number, as the C function `sleet_operation_length` has it.
 pub fn operation_length(g: Geometry, job: Job) -> usize
     ensures { result ≡ operation_length g job }
 {
@@ -55,7 +35,8 @@ pub fn operation_length(g: Geometry, job: Job) -> usize
     array::length_of(g, job)
 }
 
-// How many units the operation in progress has left: 0 while idle, and for a part or a state that is not sound.
+// How many units the operation in progress has left: 0 while idle, and for a part or a state that is not sound. A number, as the C function
+// `sleet_units_left` has it.
 pub fn units_left(g: Geometry, state: State) -> usize
     ensures { result ≡ units_left g state }
 {
@@ -65,8 +46,7 @@ pub fn units_left(g: Geometry, state: State) -> usize
     if !state.sound(g) {
         return 0;
     }
-    let w = state.work;
-    match w {
+    match state.work {
         Work::Idle => 0,
         Work::Busy(job, done) => array::length_of(g, job) - done,
     }
@@ -84,31 +64,32 @@ pub fn work(
     ensures { seen result cells.new cache.new counts.new []
         ≡ shown (work_of g (unitwise g) n (machine state cells.old cache.old counts.old)) [] }
 {
-    let k = refusals::check(g, state, cells.len(), cache.len(), counts.len());
-    if !refusals::passes(k) {
-        return Walk::start(state).so_far(k);
+    if let Err(r) = refusals::check(g, state, cells.len(), cache.len(), counts.len()) {
+        return Walk::start(state).so_far(r);
     }
-    let s = state.work(g, n, cells, cache);
+    let state = state.work(g, n, cells, cache);
     Answer {
         refusal: Refusal::Done,
-        state: s,
+        state,
         records: 1,
         used: 3,
         written: 0,
     }
 }
 
-// The memory of a device that was never used: cells and cache register FFh, page counts 0.
-pub fn blank(g: Geometry, cells: &mut [u8], cache: &mut [u8], counts: &mut [u8]) -> Refusal
+// The memory of a device that was never used: cells and cache register FFh, page counts 0; or a refusal, and not a byte changed.
+pub fn blank(
+    g: Geometry,
+    cells: &mut [u8],
+    cache: &mut [u8],
+    counts: &mut [u8],
+) -> Result<(), Refusal>
     ensures { blank_end result cells.new cache.new counts.new
         ≡ blank_of g cells.old cache.old counts.old }
 {
-    let k = refusals::check(g, State::power_up(), cells.len(), cache.len(), counts.len());
-    if !refusals::passes(k) {
-        return k;
-    }
-    part::fill(cells, 0xFF);
-    part::fill(cache, 0xFF);
-    part::fill(counts, 0);
-    k
+    refusals::check(g, State::power_up(), cells.len(), cache.len(), counts.len())?;
+    cells.fill(0xFF);
+    cache.fill(0xFF);
+    counts.fill(0);
+    Ok(())
 }

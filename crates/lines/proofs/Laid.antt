@@ -1,7 +1,7 @@
 -- The lines as they are laid into lent memory: stretch behind stretch from the front.
 use mathlib.Core.Bool.{Bool, true, false, cond}
 use mathlib.Core.List.{List, [], ◌∷◌, ◌++◌, append_assoc}
-use mathlib.Core.Option.{Option, none, some}
+use Rattle.std.specs.Prelude.{Option, Some, None}
 use mathlib.Core.Path.{◌≡◌, refl, sym, ap, ◌∙◌}
 use Prim.Native.Nat.{ℕ, ◌+◌, ◌-◌, ◌≤◌, ◌<◌}
 use native.Mathlib.Omega.{arith}
@@ -31,8 +31,8 @@ length_decimal_then n last = rw (length-append (digits (places n) n) (last ∷ [
 
 pub length_fields : (e : Record) (o : Option ℕ) (status : ℕ) → length (fields_of e o status) ≡ 8
 unfolding fields_of hex
-length_fields e none status = refl
-length_fields e (some d) status = refl
+length_fields e None status = refl
+length_fields e (Some d) status = refl
 
 pub length_line : (number : ℕ) (e : Record) (o : Option ℕ) (status : ℕ) → length (line_of number e o status) ≡ places number + 1 + 8
 unfolding line_of
@@ -65,12 +65,12 @@ stored l x j k n last p h e =
     let u : k - j - 1 ≡ places n = omega arith in
     rw (t, u) at e
 
--- a text that has room, and one that has none
-fits : (text l : List ℕ) (n : ℕ) → length text ≡ n → n ≤ length l → laid n (text ++ drop n l) ≡ laid_of text l
+-- a text that has room, and one that has None
+fits : (text l : List ℕ) (n : ℕ) → length text ≡ n → n ≤ length l → laid (Some n) (text ++ drop n l) ≡ laid_of text l
 unfolding laid_of
 fits text l n p h = rw (p, le-ltb (length l) n h)
 
-pub short : (text l : List ℕ) (n : ℕ) → length text ≡ n → length l < n → laid 0 l ≡ laid_of text l
+pub short : (text l : List ℕ) (n : ℕ) → length text ≡ n → length l < n → laid None l ≡ laid_of text l
 unfolding laid_of
 short text l n p h = rw (p, lt-ltb (length l) n h)
 
@@ -82,13 +82,13 @@ module _ (l x y : List ℕ) (p number : ℕ) (e : Record) (o : Option ℕ) (stat
   numbered = take 0 l ++ (x ++ drop (p + 1 - 0) (drop 0 l))
 
   pub line_laid : p ≡ places number → p + 1 + 8 ≤ length l → x ≡ digits (length (take (p + 1 - 0) (drop 0 l)) - 1) number ++ (space ∷ []) → y ≡ fields_of e o status
-      → laid (p + 1 + 8) (take (p + 1) numbered ++ (y ++ drop (p + 1 + 8 - (p + 1)) (drop (p + 1) numbered))) ≡ laid_of (line_of number e o status) l
+      → laid (Some (p + 1 + 8)) (take (p + 1) numbered ++ (y ++ drop (p + 1 + 8 - (p + 1)) (drop (p + 1) numbered))) ≡ laid_of (line_of number e o status) l
   unfolding line_of
   line_laid q h a b =
       let a' : x ≡ decimal_then number space = stored l x 0 (p + 1) number space (omega arith) (omega arith) a in
       let long : length (line_of number e o status) ≡ p + 1 + 8 = length_line number e o status ∙ rw q in
       let m : numbered ≡ decimal_then number space ++ drop (p + 1) l = rw a' (lay [] (decimal_then number space) l l 0 (p + 1) refl (omega (arith, length_decimal_then number space)) refl) in
-      rw b (ap (laid (p + 1 + 8)) (lay (decimal_then number space) (fields_of e o status) l numbered (p + 1) (p + 1 + 8) (omega (arith, length_decimal_then number space)) (sym long) m)
+      rw b (ap (laid (Some (p + 1 + 8))) (lay (decimal_then number space) (fields_of e o status) l numbered (p + 1) (p + 1 + 8) (omega (arith, length_decimal_then number space)) (sym long) m)
       ∙ fits (line_of number e o status) l (p + 1 + 8) long h)
 
 module _ (l w x y : List ℕ) (p q refusal records : ℕ) where
@@ -102,7 +102,7 @@ module _ (l w x y : List ℕ) (p q refusal records : ℕ) where
   pub end_laid : p ≡ places refusal → q ≡ places records → 4 + p + 1 + q + 1 ≤ length l → w ≡ word
       → x ≡ digits (length (take (4 + p + 1 - 4) (drop 4 worded)) - 1) refusal ++ (space ∷ [])
       → y ≡ digits (length (take (4 + p + 1 + q + 1 - (4 + p + 1)) (drop (4 + p + 1) refused)) - 1) records ++ (newline ∷ [])
-      → laid (4 + p + 1 + q + 1) (take (4 + p + 1) refused ++ (y ++ drop (4 + p + 1 + q + 1 - (4 + p + 1)) (drop (4 + p + 1) refused))) ≡ laid_of (end_of refusal records) l
+      → laid (Some (4 + p + 1 + q + 1)) (take (4 + p + 1) refused ++ (y ++ drop (4 + p + 1 + q + 1 - (4 + p + 1)) (drop (4 + p + 1) refused))) ≡ laid_of (end_of refusal records) l
   unfolding end_of
   end_laid r s h z a b =
       let front : List ℕ = word ++ decimal_then refusal space in
@@ -114,14 +114,17 @@ module _ (l w x y : List ℕ) (p q refusal records : ℕ) where
       let m-long : length refused ≡ length l = laid_long front l refused (4 + p + 1) k-long (omega arith) m in
       let b' : y ≡ decimal_then records newline = stored refused y (4 + p + 1) (4 + p + 1 + q + 1) records newline (omega arith) (omega arith) b in
       let long : length (end_of refusal records) ≡ 4 + p + 1 + q + 1 = length_end refusal records ∙ rw (r, s) in
-      rw b' (ap (laid (4 + p + 1 + q + 1)) (lay front (decimal_then records newline) l refused (4 + p + 1) (4 + p + 1 + q + 1) (sym k-long) (sym long) m)
+      rw b' (ap (laid (Some (4 + p + 1 + q + 1))) (lay front (decimal_then records newline) l refused (4 + p + 1) (4 + p + 1 + q + 1) (sym k-long) (sym long) m)
       ∙ fits (end_of refusal records) l (4 + p + 1 + q + 1) long h)
 
 -- the length that is answered lies within the memory
-pub laid_within : (text l m : List ℕ) (n : ℕ) → laid n m ≡ laid_of text l → n ≤ length l
+pub laid_within : (text l m : List ℕ) (n : ℕ) → laid (Some n) m ≡ laid_of text l → n ≤ length l
 unfolding laid_of
 laid_within text l m n e = go (ltb (length l) (length text)) refl e
   where
-    go : (b : Bool) → ltb (length l) (length text) ≡ b → laid n m ≡ cond b (laid 0 l) (laid (length text) (text ++ drop (length text) l)) → n ≤ length l
-    go true t p = omega (arith, ap (λ (w : Laid). w.count) p)
-    go false t p = omega (arith, ap (λ (w : Laid). w.count) p, ltb-false (length l) (length text) t)
+    go : (b : Bool) → ltb (length l) (length text) ≡ b → laid (Some n) m ≡ cond b (laid None l) (laid (Some (length text)) (text ++ drop (length text) l)) → n ≤ length l
+    go true t p = absurd (let q : ◌≡◌ {A = Option ℕ} (Some n) None = ap (λ (w : Laid). w.count) p in let z : ◌≡◌ {A = ℕ} 0 1 = cc in omega arith)
+    go false t p =
+        let q : ◌≡◌ {A = Option ℕ} (Some n) (Some (length text)) = ap (λ (w : Laid). w.count) p in
+        let e : n ≡ length text = cc in
+        omega (arith, e, ltb-false (length l) (length text) t)

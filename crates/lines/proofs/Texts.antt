@@ -1,10 +1,10 @@
 -- Bytes stored in a stretch: digits from the last to the first, and a text from the front.
-use mathlib.Core.List.{List, [], ◌∷◌, ◌++◌, append-nil, append_assoc}
-use mathlib.Core.Path.{◌≡◌, refl, sym, ◌∙◌}
-use Prim.Native.Nat.{ℕ, zero, suc, ◌+◌, ◌-◌, ◌/◌, ◌%◌, ◌<◌}
+use mathlib.Core.List.{List, [], ◌∷◌, ◌++◌, append_assoc}
+use mathlib.Core.Path.{◌≡◌, refl, sym}
+use Prim.Native.Nat.{ℕ, zero, suc, ◌-◌, ◌/◌, ◌%◌, ◌<◌}
 use native.Mathlib.Omega.{arith}
 use lib.ListN.{length, drop, set, length-set, length-append, drop_of_length-le}
-use lib.Seq.{drop-cons, drop-set-lt, get_or-set_same, sets, sets-eq}
+use lib.Seq.{drop-cons, drop-set-lt, get_or-set_same}
 use Rattle.lines.specs.Lines.{digit, digits}
 
 -- what stands from a stored place on
@@ -30,7 +30,3 @@ pub length_digits : (k n : ℕ) → length (digits k n) ≡ k
 unfolding digits
 length_digits zero n = refl
 length_digits (suc k) n = rw (length-append (digits k (n / 10)) (digit (n % 10) ∷ []), length_digits k (n / 10)) (omega arith)
-
--- a stretch of which every place is stored
-pub sets_all : (vs l : List ℕ) → length l ≡ length vs → sets l 0 vs ≡ vs
-sets_all vs l e = sets-eq vs l 0 (omega arith) ∙ rw (drop_of_length-le l {i = 0 + length vs} (omega arith), append-nil vs)

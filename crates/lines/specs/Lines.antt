@@ -1,6 +1,5 @@
 -- Document 01, "The replay program": the bytes of a record's line and of the last line, and how a line is put into lent memory.
-use Rattle.std.specs.Prelude.{List, [], ◌∷◌, ◌++◌, ℕ, zero, suc, ◌+◌, ◌/◌, ◌%◌, ltb, length, drop, if◌then◌else◌}
-use Rattle.std.proofs.Math.Option.{Option, none, some}
+use Rattle.std.specs.Prelude.{Option, Some, None, List, [], ◌∷◌, ◌++◌, ℕ, zero, suc, ◌+◌, ◌/◌, ◌%◌, ltb, length, drop, if◌then◌else◌}
 use Rattle.buslog.specs.declared.Record.{Record}
 use Rattle.buslog.specs.declared.Record.TheVariants.{Select, Shift, Deselect, Units, Level, Power}
 
@@ -62,17 +61,17 @@ letter_of Power = 0x50
 
 -- the byte on DO, that only a shift has
 abbrev pub do_of : Record → ℕ → Option ℕ
-do_of Select d = none
-do_of (Shift b) d = some d
-do_of Deselect d = none
-do_of (Units n) d = none
-do_of (Level v) d = none
-do_of Power d = none
+do_of Select d = None
+do_of (Shift b) d = Some d
+do_of Deselect d = None
+do_of (Units n) d = None
+do_of (Level v) d = None
+do_of Power d = None
 
 -- DO in two hex capitals, or -- for other kinds
 abbrev pub do_text : Option ℕ → List ℕ
-do_text none = 0x2D ∷ 0x2D ∷ []
-do_text (some d) = hex d
+do_text None = 0x2D ∷ 0x2D ∷ []
+do_text (Some d) = hex d
 
 -- what stands behind the number: the letter, DO and the status register, and the newline
 unfoldable pub fields_of : Record → Option ℕ → ℕ → List ℕ
@@ -92,16 +91,16 @@ end_of refusal records = word ++ decimal_then refusal space ++ decimal_then reco
 
 -- ---- a line in lent memory
 
--- the length that is answered, and what the lent memory then holds
+-- the length that is answered, if it had room, and what the lent memory then holds
 pub record Laid : Type 0 where
-  pub count : ℕ
+  pub count : Option ℕ
   pub out : List ℕ
 
-abbrev pub laid : ℕ → List ℕ → Laid
+abbrev pub laid : Option ℕ → List ℕ → Laid
 laid count out = record { count = count; out = out }
 
--- a line at the front, the rest as it was; where the room is too short, 0 and not a byte changed
+-- a line at the front, the rest as it was; where the room is too short, none and not a byte changed
 unfoldable pub laid_of : List ℕ → List ℕ → Laid
 laid_of text out =
-    if ltb (length out) (length text) then laid 0 out
-    else laid (length text) (text ++ drop (length text) out)
+    if ltb (length out) (length text) then laid None out
+    else laid (Some (length text)) (text ++ drop (length text) out)

@@ -6,10 +6,6 @@ ghost use Rattle.lines.specs.Lines.{digits, places, hex_digit, hex, letter_of, d
 
 use buslog::Record;
 
-// Two characters.
-#[derive(Clone, Copy)]
-struct Pair(u8, u8);
-
 // The letter of a record's kind.
 fn letter(e: Record) -> u8
     ensures { result ≡ letter_of e }
@@ -25,34 +21,29 @@ fn letter(e: Record) -> u8
 }
 
 // A hex digit, a capital.
+#[tactic(auto, unfolding(crate::specs::Lines::hex_digit))]
 fn hex_digit(d: u8) -> u8
     requires { d < 16 }
     ensures { result ≡ hex_digit d }
 {
-    if d < 10 {
-        return b'0' + d;
-    }
-    0x37 + d
+    if d < 10 { b'0' + d } else { 0x37 + d }
 }
 
 // A byte in two hex digits.
-fn hex_pair(b: u8) -> Pair
+#[tactic(auto, unfolding(crate::specs::Lines::hex))]
+fn hex_pair(b: u8) -> (u8, u8)
     ensures { result.0 ∷ result.1 ∷ [] ≡ hex b }
 {
-    Pair(hex_digit(b / 16), hex_digit(b % 16))
+    (hex_digit(b / 16), hex_digit(b % 16))
 }
 
 // The byte on DO, which only a shift has.
-fn do_pair(e: Record, d: u8) -> Pair
+fn do_pair(e: Record, d: u8) -> (u8, u8)
     ensures { result.0 ∷ result.1 ∷ [] ≡ do_text (do_of e d) }
 {
     match e {
-        Record::Select => Pair(b'-', b'-'),
         Record::Shift(_) => hex_pair(d),
-        Record::Deselect => Pair(b'-', b'-'),
-        Record::Units(_) => Pair(b'-', b'-'),
-        Record::Level(_) => Pair(b'-', b'-'),
-        Record::Power => Pair(b'-', b'-'),
+        _ => (b'-', b'-'),
     }
 }
 
@@ -61,19 +52,13 @@ fn do_pair(e: Record, d: u8) -> Pair
 fn places_of(n: u16) -> usize
     ensures { result ≡ places n }
 {
-    if n < 10 {
-        return 1;
+    match n {
+        0..=9 => 1,
+        10..=99 => 2,
+        100..=999 => 3,
+        1000..=9999 => 4,
+        _ => 5,
     }
-    if n < 100 {
-        return 2;
-    }
-    if n < 1000 {
-        return 3;
-    }
-    if n < 10000 {
-        return 4;
-    }
-    5
 }
 
 // The digits of a number, as many as the stretch has room for, and a character behind them.
@@ -81,21 +66,13 @@ fn store_number(n: u16, last: u8, out: &mut [u8])
     requires { 0 < length out.old }
     ensures { out.new ≡ digits (length out.old - 1) n ++ last ∷ [] }
 {
-    let mut i = out.len() - 1;
+    let k = out.len() - 1;
     let mut rest = n;
-    out[i] = last;
-    while 0 < i {
-        i -= 1;
-        out[i] = b'0' + low(rest % 10);
+    out[k] = last;
+    for i in (0..k).rev() {
+        out[i] = b'0' + (rest % 10) as u8;
         rest /= 10;
     }
-}
-
-fn low(d: u16) -> u8
-    requires { d < 10 }
-    ensures { result ≡ d }
-{
-    d as u8
 }
 
 // What stands behind the number, in a stretch that is just as long.
@@ -105,28 +82,21 @@ fn store_fields(e: Record, d: u8, status: u8, out: &mut [u8])
 {
     let t = do_pair(e, d);
     let s = hex_pair(status);
-    out[0] = letter(e);
-    out[1] = b' ';
-    out[2] = t.0;
-    out[3] = t.1;
-    out[4] = b' ';
-    out[5] = s.0;
-    out[6] = s.1;
-    out[7] = b'\n';
+    out.copy_from_slice(&[letter(e), b' ', t.0, t.1, b' ', s.0, s.1, b'\n']);
 }
 
-// The line of a record and its length, or 0 and not a byte where the room is too short.
-pub fn record_line(number: u16, e: Record, d: u8, status: u8, out: &mut [u8]) -> usize
+// The line of a record and its length, or not a byte where the room is too short.
+pub fn record_line(number: u16, e: Record, d: u8, status: u8, out: &mut [u8]) -> Option<usize>
     ensures { laid result out.new ≡ laid_of (line_of number e (do_of e d) status) out.old }
 {
     let k = places_of(number) + 1;
     let n = k + 8;
     if out.len() < n {
-        return 0;
+        return None;
     }
     store_number(number, b' ', &mut out[0..k]);
     store_fields(e, d, status, &mut out[k..n]);
-    n
+    Some(n)
 }
 
 // `end` and a space, in a stretch that is just as long.
@@ -134,30 +104,21 @@ fn store_word(out: &mut [u8])
     requires { length out.old ≡ 4 }
     ensures { out.new ≡ word }
 {
-    out[0] = b'e';
-    out[1] = b'n';
-    out[2] = b'd';
-    out[3] = b' ';
+    out.copy_from_slice(b"end ");
 }
 
-// The last line and its length, or 0 and not a byte where the room is too short.
-pub fn end_line(refusal: u8, records: u16, out: &mut [u8]) -> usize
+// The last line and its length, or not a byte where the room is too short.
+pub fn end_line(refusal: u8, records: u16, out: &mut [u8]) -> Option<usize>
     ensures { laid result out.new ≡ laid_of (end_of refusal records) out.old }
 {
-    let r = wide(refusal);
+    let r = u16::from(refusal);
     let k = 4 + places_of(r) + 1;
     let n = k + places_of(records) + 1;
     if out.len() < n {
-        return 0;
+        return None;
     }
     store_word(&mut out[0..4]);
     store_number(r, b' ', &mut out[4..k]);
     store_number(records, b'\n', &mut out[k..n]);
-    n
-}
-
-fn wide(x: u8) -> u16
-    ensures { result ≡ x }
-{
-    x as u16
+    Some(n)
 }

@@ -14,8 +14,7 @@ use Rattle.buslog.specs.Read.{found, front, next_of, parse}
 use Rattle.buslog.specs.Write.{over}
 use Rattle.buslog.specs.declared.Record.{Record}
 use Rattle.buslog.specs.declared.Record.TheVariants.{Select, Shift, Deselect, Units, Level, Power}
-use Rattle.buslog.specs.declared.Next.{Next}
-use Rattle.buslog.specs.declared.Next.TheVariants.{Found, Stop}
+use Rattle.std.specs.Prelude.{Result, Ok, Err}
 use Rattle.buslog.specs.declared.Why.{Why}
 use Rattle.buslog.proofs.Logs.{body_of, drop_bytes, found_bytes, front_body, length_written}
 use Rattle.buslog.proofs.RoundTrip.{over_behind, found_front, stop_front}
@@ -28,8 +27,6 @@ use Rattle.refusals.specs.declared.Refusal.{Refusal}
 use Rattle.refusals.specs.declared.Refusal.TheVariants.{Done, NoRoom}
 use Rattle.walk.specs.Turns.{takes, puts, start_of, behind, answered, state_after, Stands, Turned, turned, turn_of}
 use Rattle.walk.specs.declared.Walk.{Walk}
-use Rattle.walk.specs.declared.Went.{Went}
-use Rattle.walk.specs.declared.Went.TheVariants.{On, Off}
 use Rattle.walk.proofs.Turns.{further}
 use Rattle.model.specs.Runs.{Outcome, and_then, bytes_out, did, ran_of, seen, shown}
 use Rattle.model.proofs.Rooms.{puts_length, left_ends, left_full, left_next}
@@ -47,7 +44,7 @@ byte_shifted (Units n) l h = tt
 byte_shifted (Level v) l h = tt
 byte_shifted Power l h = tt
 
-pub byte_found : (log : List ℕ) (at : ℕ) → Bytes log → (e : Record) (n : ℕ) → next_of log at ≡ Found e n → ByteIn e
+pub byte_found : (log : List ℕ) (at : ℕ) → Bytes log → (e : Record) (n : ℕ) → next_of log at ≡ Ok (e, n) → ByteIn e
 unfolding next_of
 byte_found log at h e n p =
     let f = found_front at (front (drop at log)) e n p in
@@ -99,11 +96,11 @@ module _ (g : Geometry) (arr : Array) (log out₀ : List ℕ) (m₀ : Machine) w
         (h.lies ∙ ap (λ (n : ℕ). h.bytes ++ drop n out₀) (sym h.long)))
         ∙ ap (λ (o : Outcome). shown o out₀) o
 
-    pub going_ends : (why : Why) → next_of log w.at ≡ Stop why → Seen (refusal_of why)
+    pub going_ends : (why : Why) → next_of log w.at ≡ Err why → Seen (refusal_of why)
     unfolding next_of
     going_ends why p = stop_with (refusal_of why) (left_ends g arr (length out₀ - w.written) log w.at m why (stop_front w.at (front (drop w.at log)) why p))
 
-    pub going_full : (e : Record) (n : ℕ) → next_of log w.at ≡ Found e n → length out₀ - w.written < takes e → Seen NoRoom
+    pub going_full : (e : Record) (n : ℕ) → next_of log w.at ≡ Ok (e, n) → length out₀ - w.written < takes e → Seen NoRoom
     unfolding next_of
     going_full e n p k =
         let f = found_front w.at (front (drop w.at log)) e n p in
@@ -145,7 +142,7 @@ module _ (g : Geometry) (arr : Array) (log out₀ : List ℕ) (m₀ : Machine) w
           regroup (written_one e ∙ ap suc (front_body (drop w.at log) e n p))
           ∙ ap (on_top w.records w.at h.bytes) (sym (left_next g arr (length out₀ - w.written) log w.at m e n p k)) ∙ h.same
 
-    pub going_next : Keeps g arr → (e : Record) (n : ℕ) → next_of log w.at ≡ Found e n → ByteIn e → takes e ≤ length out₀ - w.written
+    pub going_next : Keeps g arr → (e : Record) (n : ℕ) → next_of log w.at ≡ Ok (e, n) → ByteIn e → takes e ≤ length out₀ - w.written
         → Going (behind w (step g arr m e).state n (takes e)) (over out w.written (puts g m e)) (step g arr m e)
     unfolding next_of left
     going_next s e n p b k =
@@ -166,18 +163,18 @@ module _ (g : Geometry) (arr : Array) (log out₀ : List ℕ) (m₀ : Machine) w
   -- ---- a turn
 
   -- what it leaves: the run stands behind the record, further on, or it has ended as the whole run does
-  abbrev pub Left : Walk → Went → Machine → List ℕ → Type 0
-  Left w (On x) m out = (w.at < x.at) × Going x out m
-  Left w (Off r) m out = seen (answered r w) m.store.cells m.store.cache m.counts out ≡ shown whole out₀
+  abbrev pub Left : Walk → Result Walk Refusal → Machine → List ℕ → Type 0
+  Left w (Ok x) m out = (w.at < x.at) × Going x out m
+  Left w (Err r) m out = seen (answered r w) m.store.cells m.store.cache m.counts out ≡ shown whole out₀
 
   abbrev LeftBy : Walk → Turned → Type 0
   LeftBy w t = Left w t.went t.machine t.out
 
   module _ (keeps : Keeps g arr) (bytes : Bytes log) (w : Walk) (out : List ℕ) (m : Machine) (h : Going w out m) where
-    turn_leaves : (n : Next) → next_of log w.at ≡ n → LeftBy w (turn_of g arr w n m out)
+    turn_leaves : (n : Result (Record × ℕ) Why) → next_of log w.at ≡ n → LeftBy w (turn_of g arr w n m out)
     unfolding turn_of
-    turn_leaves (Stop why) p = going_ends w out m h why p
-    turn_leaves (Found e n) p =
+    turn_leaves (Err why) p = going_ends w out m h why p
+    turn_leaves (Ok (e, n)) p =
         cond_keep (LeftBy w) (ltb (length out - w.written) (takes e))
         (λ k. going_full w out m h e n p (omega (arith, ltb-true (length out - w.written) (takes e) k, out_long w out m h)))
         (λ k. (
@@ -186,12 +183,12 @@ module _ (g : Geometry) (arr : Array) (log out₀ : List ℕ) (m₀ : Machine) w
         ))
 
     -- the same of what the code has: the machine behind a turn holds the state that came with it
-    module _ (r : Went) (cells cache counts out₁ : List ℕ) (t : turned r (machine (state_after w r) cells cache counts) out₁ ≡ turn_of g arr w (next_of log w.at) m out) where
+    module _ (r : Result Walk Refusal) (cells cache counts out₁ : List ℕ) (t : turned r (machine (state_after w r) cells cache counts) out₁ ≡ turn_of g arr w (next_of log w.at) m out) where
       left_as : Left w r (machine (state_after w r) cells cache counts) out₁
       left_as = subst⁻¹ (LeftBy w) t (turn_leaves (next_of log w.at) refl)
 
-      pub going_on : (x : Walk) → r ≡ On x → (w.at < x.at) × Going x out₁ (machine x.state cells cache counts)
-      going_on x q = subst (λ (y : Went). Left w y (machine (state_after w y) cells cache counts) out₁) q left_as
+      pub going_on : (x : Walk) → r ≡ Ok x → (w.at < x.at) × Going x out₁ (machine x.state cells cache counts)
+      going_on x q = subst (λ (y : Result Walk Refusal). Left w y (machine (state_after w y) cells cache counts) out₁) q left_as
 
-      pub going_off : (why : Refusal) → r ≡ Off why → seen (answered why w) cells cache counts out₁ ≡ shown whole out₀
-      going_off why q = subst (λ (y : Went). Left w y (machine (state_after w y) cells cache counts) out₁) q left_as
+      pub going_off : (why : Refusal) → r ≡ Err why → seen (answered why w) cells cache counts out₁ ≡ shown whole out₀
+      going_off why q = subst (λ (y : Result Walk Refusal). Left w y (machine (state_after w y) cells cache counts) out₁) q left_as

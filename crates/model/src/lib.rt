@@ -1,4 +1,5 @@
 // The model: a log run on a device, every input answered. Document 01, "Numbers of refusal".
+// Buffers are lent one by one: `walk` says why.
 #![tactic(auto)]
 
 ghost use Rattle.std.specs.Prelude.{◌≡◌, length};
@@ -14,9 +15,10 @@ use buslog::Record;
 use device::State;
 use part::Geometry;
 use refusals::Refusal;
-use walk::{Answer, Walk, Went};
+use walk::{Answer, Walk};
 
 // The records of a log, one after another: the state goes in whole and comes back whole with each.
+// No `for`: where the next record stands is known only when this one has been read.
 fn go(
     g: Geometry,
     state: State,
@@ -33,12 +35,8 @@ fn go(
     let mut w = Walk::start(state);
     loop {
         match walk::onward(g, w, log, cells, cache, counts, out) {
-            Went::On(next) => {
-                w = next;
-            }
-            Went::Off(r) => {
-                return w.so_far(r);
-            }
+            Ok(next) => w = next,
+            Err(r) => return w.so_far(r),
         }
     }
 }
@@ -56,9 +54,8 @@ pub fn run(
     ensures { seen result cells.new cache.new counts.new out.new
         ≡ shown (run_of g (unitwise g) (length out.old) log.now (machine state cells.old cache.old counts.old)) out.old }
 {
-    let k = refusals::check(g, state, cells.len(), cache.len(), counts.len());
-    if !refusals::passes(k) {
-        return Walk::start(state).so_far(k);
+    if let Err(r) = refusals::check(g, state, cells.len(), cache.len(), counts.len()) {
+        return Walk::start(state).so_far(r);
     }
     go(g, state, log, cells, cache, counts, out)
 }
@@ -76,9 +73,8 @@ pub fn step(
     ensures { seen result cells.new cache.new counts.new out.new
         ≡ shown (run_of g (unitwise g) (length out.old) (bytes_of e) (machine state cells.old cache.old counts.old)) out.old }
 {
-    let k = refusals::check(g, state, cells.len(), cache.len(), counts.len());
-    if !refusals::passes(k) {
-        return Walk::start(state).so_far(k);
+    if let Err(r) = refusals::check(g, state, cells.len(), cache.len(), counts.len()) {
+        return Walk::start(state).so_far(r);
     }
     if !buslog::level_sound(e) {
         return Walk::start(state).so_far(Refusal::BadLevel);
@@ -87,10 +83,10 @@ pub fn step(
     if out.len() < takes {
         return Walk::start(state).so_far(Refusal::NoRoom);
     }
-    let s = walk::turn(g, state, e, 0, cells, cache, counts, out);
+    let state = walk::turn(g, state, e, 0, cells, cache, counts, out);
     Answer {
         refusal: Refusal::Done,
-        state: s,
+        state,
         records: 1,
         used: buslog::length_of(e),
         written: takes,

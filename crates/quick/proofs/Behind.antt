@@ -13,7 +13,7 @@ use Rattle.buslog.specs.Read.{front, next_of}
 use Rattle.buslog.specs.Write.{over}
 use Rattle.buslog.specs.declared.Record.{Record}
 use Rattle.buslog.specs.declared.Record.TheVariants.{Shift}
-use Rattle.buslog.specs.declared.Next.TheVariants.{Found}
+use Rattle.std.specs.Prelude.{Ok}
 use Rattle.device.specs.Machine.{Machine, machine}
 use Rattle.device.specs.Work.{Array}
 use Rattle.device.specs.Instructions.{answer, shifts}
@@ -22,7 +22,6 @@ use Rattle.device.specs.declared.State.{State}
 use Rattle.kept.specs.Kept.{Keeps}
 use Rattle.walk.specs.Turns.{takes, puts}
 use Rattle.walk.specs.declared.Walk.{Walk}
-use Rattle.walk.specs.declared.Went.TheVariants.{On}
 use Rattle.buslog.proofs.RoundTrip.{over_one}
 use Rattle.walk.proofs.Turns.{turn_goes}
 use Rattle.stream.specs.Streams.{ShiftAt, byte_in, Shifted, none, more, Streamed}
@@ -31,7 +30,7 @@ use Rattle.model.proofs.Loop.{Going, going_next, going_on, out_long, byte_found}
 use Rattle.quick.specs.Along.{walk_at, shifts_on}
 
 -- a shift at a place is the next record
-shift_next : (log : List ℕ) (place : ℕ) → ShiftAt log place → next_of log place ≡ Found (Shift (byte_in log place)) (place + 2)
+shift_next : (log : List ℕ) (place : ℕ) → ShiftAt log place → next_of log place ≡ Ok (Shift (byte_in log place), place + 2)
 unfolding next_of front
 shift_next log place h =
     rw (add-one place, drop-cons log place 0 (omega (arith, h.inside)), drop-cons log (suc place) 0 (omega (arith, h.inside)), h.kind)
@@ -43,12 +42,12 @@ module _ (g : Geometry) (arr : Array) (log out₀ : List ℕ) (m₀ : Machine) (
       subst⁻¹ (λ (x : Walk). Going g arr log out₀ m₀ x out' m) e (subst⁻¹ (λ (x : List ℕ). Going g arr log out₀ m₀ v x m) f h)
 
   -- behind a turn, further on
-  pub going_turn : (out : List ℕ) (m : Machine) → Going g arr log out₀ m₀ w out m → (e : Record) (place room : ℕ) → next_of log w.at ≡ Found e place → room ≡ takes e → room ≤ length out - w.written
+  pub going_turn : (out : List ℕ) (m : Machine) → Going g arr log out₀ m₀ w out m → (e : Record) (place room : ℕ) → next_of log w.at ≡ Ok (e, place) → room ≡ takes e → room ≤ length out - w.written
       → (s : State) (cells cache counts out₁ : List ℕ) → machine s cells cache counts ≡ step g arr m e → out₁ ≡ over out w.written (puts g m e)
       → (w.at < place) × Going g arr log out₀ m₀ (walk_at s place (w.records + 1) (w.written + room)) out₁ (machine s cells cache counts)
   going_turn out m h e place room p q k s cells cache counts out₁ x y =
       let v : Walk = walk_at s place (w.records + 1) (w.written + room) in
-      going_on g arr log out₀ m₀ keeps bytes w out m h (On v) cells cache counts out₁ (turn_goes g arr w (next_of log w.at) m out e place room (machine s cells cache counts) out₁ p q k x y) v refl
+      going_on g arr log out₀ m₀ keeps bytes w out m h (Ok v) cells cache counts out₁ (turn_goes g arr w (next_of log w.at) m out e place room (machine s cells cache counts) out₁ p q k x y) v refl
 
   -- one shift more
   going_more : (k : ℕ) (m : Machine) (out : List ℕ) → Going g arr log out₀ m₀ (shifts_on w m.state k) out m → ShiftAt log (w.at + 2 * k) → w.written + k < length out
@@ -58,7 +57,7 @@ module _ (g : Geometry) (arr : Array) (log out₀ : List ℕ) (m₀ : Machine) (
   going_more k m out h a z =
       let v = shifts_on w m.state k in
       let e = Shift (byte_in log (w.at + 2 * k)) in
-      let p : next_of log (w.at + 2 * k) ≡ Found (Shift (byte_in log (w.at + 2 * k))) (w.at + 2 * k + 2) = shift_next log (w.at + 2 * k) a in
+      let p : next_of log (w.at + 2 * k) ≡ Ok (Shift (byte_in log (w.at + 2 * k)), w.at + 2 * k + 2) = shift_next log (w.at + 2 * k) a in
       let r : w.records + (k + 1) ≡ w.records + k + 1 = omega arith in
       let q : w.at + 2 * (k + 1) ≡ w.at + 2 * k + 2 = omega arith in
       let n : w.written + (k + 1) ≡ w.written + k + 1 = omega arith in

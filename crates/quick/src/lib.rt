@@ -1,4 +1,5 @@
 // The quick run: the contract of `model::run`, with the shifts that follow one another in a transfer done in one loop. The faces call it.
+// Buffers are lent one by one: `walk` says why.
 #![tactic(auto)]
 
 ghost use Rattle.std.specs.Prelude.{◌≡◌, length};
@@ -11,27 +12,27 @@ ghost use Rattle.walk.specs.Turns.{answered};
 ghost use Rattle.model.specs.Runs.{ran_of, run_of, seen, shown};
 ghost use Rattle.quick.specs.Along.{walk_at};
 
-use buslog::Next;
 use device::State;
 use part::Geometry;
 use refusals::Refusal;
 use walk::{Answer, Walk};
 
 // What was done so far, and why no more is.
-fn so_far(r: Refusal, s: State, at: usize, records: usize, written: usize) -> Answer
-    ensures { result ≡ answered r (walk_at s at records written) }
+fn so_far(r: Refusal, state: State, at: usize, records: usize, written: usize) -> Answer
+    ensures { result ≡ answered r (walk_at state at records written) }
 {
     let w = Walk {
-        state: s,
-        at: at,
-        records: records,
-        written: written,
+        state,
+        at,
+        records,
+        written,
     };
     w.so_far(r)
 }
 
 // The records of a log, one after another, and behind each the stream that follows it. Where the run stands is kept in plain numbers here,
-// and a turn is written out: both for speed.
+// and `onward` is written out: both for speed (docs/DECISIONS.md, 41).
+// No `for`: where the next record stands is known only when this one has been read.
 fn go(
     g: Geometry,
     state: State,
@@ -51,10 +52,8 @@ fn go(
     let mut written = 0;
     loop {
         match buslog::next_at(log, at) {
-            Next::Stop(why) => {
-                return so_far(refusals::refusal_of(why), s, at, records, written);
-            }
-            Next::Found(e, place) => {
+            Err(why) => return so_far(Refusal::from(why), s, at, records, written),
+            Ok((e, place)) => {
                 let room = walk::room_of(e);
                 if out.len() - written < room {
                     return so_far(Refusal::NoRoom, s, at, records, written);
@@ -67,8 +66,7 @@ fn go(
                     continue;
                 }
                 let b = stream::shifts(g, s, log, at, cache, out, written);
-                let t = b.state;
-                s = t;
+                s = b.state;
                 at += 2 * b.count;
                 records += b.count;
                 written += b.count;
@@ -90,9 +88,8 @@ pub fn run(
     ensures { seen result cells.new cache.new counts.new out.new
         ≡ shown (run_of g (unitwise g) (length out.old) log.now (machine state cells.old cache.old counts.old)) out.old }
 {
-    let k = refusals::check(g, state, cells.len(), cache.len(), counts.len());
-    if !refusals::passes(k) {
-        return Walk::start(state).so_far(k);
+    if let Err(r) = refusals::check(g, state, cells.len(), cache.len(), counts.len()) {
+        return Walk::start(state).so_far(r);
     }
     go(g, state, log, cells, cache, counts, out)
 }

@@ -2,14 +2,14 @@
 #![tactic(auto)]
 
 ghost use Rattle.std.specs.Prelude.{◌≡◌};
-ghost use Rattle.refusals.specs.Refusals.{refusal_of, check_of, passed, number_of};
+ghost use Rattle.refusals.specs.Refusals.{refusal_of, check_of, number_of};
 
 use buslog::Why;
 use device::State;
 use part::Geometry;
 
-// The refusals, 0 to 9.
-#[derive(Clone, Copy)]
+// The refusals, 0 to 9. `Done` is among them: it is line 0 of document 01's table, and the theorem `Exactly` speaks of all ten lines.
+#[derive(Clone, Copy, Debug, PartialEq, Eq)]
 pub enum Refusal {
     Done,
     BadPart,
@@ -23,7 +23,7 @@ pub enum Refusal {
     NoRoom,
 }
 
-// The paper's number of a refusal.
+// The paper's number of a refusal, which C is told.
 pub fn number_of(r: Refusal) -> u8
     ensures { result ≡ number_of r }
 {
@@ -41,54 +41,44 @@ pub fn number_of(r: Refusal) -> u8
     }
 }
 
-// The refusal for a reason why the reading of a log ends.
-pub fn refusal_of(w: Why) -> Refusal
-    ensures { result ≡ refusal_of w }
-{
-    match w {
-        Why::End => Refusal::Done,
-        Why::BadKind => Refusal::BadKind,
-        Why::ShortBody => Refusal::ShortBody,
-        Why::BadLevel => Refusal::BadLevel,
-    }
-}
+impl From<Why> for Refusal {
+    ghost from_gives = { λ w r. r ≡ refusal_of w };
 
-// Whether nothing is refused.
-pub fn passes(r: Refusal) -> bool
-    ensures { result ≡ passed r }
-{
-    match r {
-        Refusal::Done => true,
-        Refusal::BadPart => false,
-        Refusal::BadCells => false,
-        Refusal::BadCache => false,
-        Refusal::BadCounts => false,
-        Refusal::BadState => false,
-        Refusal::BadKind => false,
-        Refusal::ShortBody => false,
-        Refusal::BadLevel => false,
-        Refusal::NoRoom => false,
+    // The refusal for a reason why the reading of a log ends.
+    fn from(w: Why) -> Refusal {
+        match w {
+            Why::End => Refusal::Done,
+            Why::BadKind => Refusal::BadKind,
+            Why::ShortBody => Refusal::ShortBody,
+            Why::BadLevel => Refusal::BadLevel,
+        }
     }
 }
 
 // The checks 1 to 5, in their order, of a part, a state and the lengths of the lent memory.
-pub fn check(g: Geometry, s: State, cells: usize, cache: usize, counts: usize) -> Refusal
+pub fn check(
+    g: Geometry,
+    s: State,
+    cells: usize,
+    cache: usize,
+    counts: usize,
+) -> Result<(), Refusal>
     ensures { result ≡ check_of g s cells cache counts }
 {
     if !g.sound() {
-        return Refusal::BadPart;
+        return Err(Refusal::BadPart);
     }
     if cells != g.rows() * g.page() {
-        return Refusal::BadCells;
+        return Err(Refusal::BadCells);
     }
     if cache != g.page() {
-        return Refusal::BadCache;
+        return Err(Refusal::BadCache);
     }
     if counts != g.rows() {
-        return Refusal::BadCounts;
+        return Err(Refusal::BadCounts);
     }
     if !s.sound(g) {
-        return Refusal::BadState;
+        return Err(Refusal::BadState);
     }
-    Refusal::Done
+    Ok(())
 }

@@ -1,11 +1,10 @@
 -- One turn of a run: the output of a record, where a run stands, and the record at its place done.
-use Rattle.std.specs.Prelude.{List, [], ◌∷◌, ℕ, ◌+◌, ◌-◌, ◌≤◌, ltb, length, if◌then◌else◌}
+use Rattle.std.specs.Prelude.{List, [], ◌∷◌, ℕ, ◌+◌, ◌-◌, ◌≤◌, ltb, length, if◌then◌else◌, Result, Ok, Err}
 use Rattle.part.specs.declared.Geometry.{Geometry}
 use Rattle.buslog.specs.Write.{over}
-use Rattle.buslog.specs.declared.Next.{Next}
-use Rattle.buslog.specs.declared.Next.TheVariants.{Found, Stop}
 use Rattle.buslog.specs.declared.Record.{Record}
 use Rattle.buslog.specs.declared.Record.TheVariants.{Select, Shift, Deselect, Units, Level, Power}
+use Rattle.buslog.specs.declared.Why.{Why}
 use Rattle.device.specs.Machine.{Machine}
 use Rattle.device.specs.Work.{Array}
 use Rattle.device.specs.Instructions.{answer}
@@ -16,8 +15,6 @@ use Rattle.refusals.specs.declared.Refusal.{Refusal}
 use Rattle.refusals.specs.declared.Refusal.TheVariants.{NoRoom}
 use Rattle.walk.specs.declared.Answer.{Answer}
 use Rattle.walk.specs.declared.Walk.{Walk}
-use Rattle.walk.specs.declared.Went.{Went}
-use Rattle.walk.specs.declared.Went.TheVariants.{On, Off}
 
 -- ---- the output: one byte a shift, in order
 
@@ -67,23 +64,23 @@ pub record Stands (w : Walk) (log out : List ℕ) : Type 0 where
 
 -- what it comes to, the machine then, and the output
 pub record Turned : Type 0 where
-  pub went : Went
+  pub went : Result Walk Refusal
   pub machine : Machine
   pub out : List ℕ
 
 -- the three together
-abbrev pub turned : Went → Machine → List ℕ → Turned
+abbrev pub turned : Result Walk Refusal → Machine → List ℕ → Turned
 turned r m out = record { went = r; machine = m; out = out }
 
 -- the state then: a run that goes off keeps its own
-abbrev pub state_after : Walk → Went → State
-state_after w (On x) = x.state
-state_after w (Off r) = w.state
+abbrev pub state_after : Walk → Result Walk Refusal → State
+state_after w (Ok x) = x.state
+state_after w (Err r) = w.state
 
 -- 6 to 8 where there is no record; 9 where it has no room; else it is done, and its output stands behind the bytes written
-unfoldable pub turn_of : Geometry → Array → Walk → Next → Machine → List ℕ → Turned
-turn_of g arr w (Stop why) m out = turned (Off (refusal_of why)) m out
-turn_of g arr w (Found e place) m out =
+unfoldable pub turn_of : Geometry → Array → Walk → Result (Record × ℕ) Why → Machine → List ℕ → Turned
+turn_of g arr w (Err why) m out = turned (Err (refusal_of why)) m out
+turn_of g arr w (Ok (e, place)) m out =
     let m₁ = step g arr m e in
-    if ltb (length out - w.written) (takes e) then turned (Off NoRoom) m out
-    else turned (On (behind w m₁.state place (takes e))) m₁ (over out w.written (puts g m e))
+    if ltb (length out - w.written) (takes e) then turned (Err NoRoom) m out
+    else turned (Ok (behind w m₁.state place (takes e))) m₁ (over out w.written (puts g m e))

@@ -1,4 +1,7 @@
 // A run, record by record: where it stands, and one turn of it. Document 01, "Numbers of refusal", 6 to 9 at each record.
+// Buffers are lent one by one, and not as one struct: a struct of `&mut`s would have each contract say as well that each is still the
+// same reference, a clause more for each, and goals were left open where the struct is made.
+// That the machine is sound is asked for by `requires`, and is no type: it speaks of the lent memory, which no type of the state holds.
 #![tactic(auto)]
 
 ghost use Rattle.std.specs.Prelude.{◌≡◌, ◌+◌, ◌≤◌, length};
@@ -11,7 +14,7 @@ ghost use Rattle.device.specs.Step.{step, pins_of};
 ghost use Rattle.kept.specs.Kept.{SoundMachine};
 ghost use Rattle.walk.specs.Turns.{takes, puts, start_of, answered, Stands, turned, state_after, turn_of};
 
-use buslog::{Next, Record};
+use buslog::Record;
 use device::State;
 use part::Geometry;
 use refusals::Refusal;
@@ -26,14 +29,7 @@ pub struct Walk {
     pub written: usize,
 }
 
-// What a turn comes to: on behind the record, or off with a refusal and nothing done.
-#[derive(Clone, Copy)]
-pub enum Went {
-    On(Walk),
-    Off(Refusal),
-}
-
-// The answer to a run: the refusal, the state, and how far it went.
+// The answer to a run: the refusal, the state, and how far it went. (No Result: how far it went holds with a refusal too.)
 #[derive(Clone, Copy)]
 pub struct Answer {
     pub refusal: Refusal,
@@ -49,7 +45,7 @@ impl Walk {
         ensures { result ≡ start_of state }
     {
         Walk {
-            state: state,
+            state,
             at: 0,
             records: 0,
             written: 0,
@@ -60,10 +56,9 @@ impl Walk {
     pub fn so_far(self, r: Refusal) -> Answer
         ensures { result ≡ answered r self }
     {
-        let s = self.state;
         Answer {
             refusal: r,
-            state: s,
+            state: self.state,
             records: self.records,
             used: self.at,
             written: self.written,
@@ -76,12 +71,8 @@ pub fn room_of(e: Record) -> usize
     ensures { result ≡ takes e }
 {
     match e {
-        Record::Select => 0,
         Record::Shift(_) => 1,
-        Record::Deselect => 0,
-        Record::Units(_) => 0,
-        Record::Level(_) => 0,
-        Record::Power => 0,
+        _ => 0,
     }
 }
 
@@ -111,18 +102,18 @@ pub fn turn(
         Record::Select => s.select(),
         Record::Shift(b) => {
             let h = s.shift(g, b, cache);
-            let t = h.state;
             out[at] = h.out;
-            t
+            h.state
         }
         Record::Deselect => s.deselect(g, counts),
-        Record::Units(n) => s.work(g, part::wide_short(n), cells, cache),
+        Record::Units(n) => s.work(g, usize::from(n), cells, cache),
         Record::Level(v) => s.level(pins_of(v)),
         Record::Power => s.power(g, cache),
     }
 }
 
-// One turn of a run: the record at its place is done, if there is one and its output has room.
+// One turn of a run: the record at its place is done, if there is one and its output has room; else the line of the table that ends the
+// run, and nothing is done.
 pub fn onward(
     g: Geometry,
     w: Walk,
@@ -131,28 +122,21 @@ pub fn onward(
     cache: &mut [u8],
     counts: &mut [u8],
     out: &mut [u8],
-) -> Went
+) -> Result<Walk, Refusal>
     requires { (Sound g) × (SoundMachine g (machine w.state cells.old cache.old counts.old)) × (Stands w log.now out.old) }
     ensures { turned result (machine (state_after w result) cells.new cache.new counts.new) out.new
         ≡ turn_of g (unitwise g) w (next_of log.now w.at) (machine w.state cells.old cache.old counts.old) out.old }
 {
-    match buslog::next_at(log, w.at) {
-        Next::Stop(why) => Went::Off(refusals::refusal_of(why)),
-        Next::Found(e, place) => {
-            let room = room_of(e);
-            if out.len() - w.written < room {
-                return Went::Off(Refusal::NoRoom);
-            }
-            let records = w.records + 1;
-            let written = w.written + room;
-            let s = w.state;
-            let t = turn(g, s, e, w.written, cells, cache, counts, out);
-            Went::On(Walk {
-                state: t,
-                at: place,
-                records: records,
-                written: written,
-            })
-        }
+    let (e, place) = buslog::next_at(log, w.at)?;
+    let room = room_of(e);
+    if out.len() - w.written < room {
+        return Err(Refusal::NoRoom);
     }
+    let state = turn(g, w.state, e, w.written, cells, cache, counts, out);
+    Ok(Walk {
+        state,
+        at: place,
+        records: w.records + 1,
+        written: w.written + room,
+    })
 }

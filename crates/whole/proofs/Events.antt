@@ -27,8 +27,7 @@ use Rattle.device.specs.Machine.{Machine, with_status, with_work, with_counts, o
 use Rattle.device.specs.Work.{begins, unitwise}
 use Rattle.device.specs.Instructions.{shifts, requested, programs, erases, resets, effect, acted, deselects}
 use Rattle.device.specs.Step.{off, powered, step}
-use Rattle.requests.specs.declared.Fate.{Fate}
-use Rattle.requests.specs.Requests.{begins?, program_fate, erase_fate, counted, uncounted}
+use Rattle.requests.specs.Requests.{Fate, begins?, program_fate, erase_fate, counted, uncounted}
 use Rattle.requests.proofs.Fates.{erase_inside, program_begins}
 use Rattle.kept.specs.Kept.{SoundMachine}
 use Rattle.kept.proofs.Made.{fits_cache}

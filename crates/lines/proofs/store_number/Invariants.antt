@@ -8,6 +8,3 @@ use Rattle.lines.proofs.store_number.Given as goal
 
 abbrev pub invariant-loop-i : goal.invariant-loop-i
 invariant-loop-i l = (l.i < length l.out) × (length l.out ≡ length l.initial.out) × (digits l.i l.rest ++ drop l.i l.out ≡ digits (length l.initial.out - 1) l.n ++ (l.last ∷ []))
-
-abbrev pub decreases-loop-i : goal.decreases-loop-i
-decreases-loop-i l = l.i

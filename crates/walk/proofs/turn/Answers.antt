@@ -26,7 +26,7 @@ returns-in-Deselect c = rw c.in-Deselect.is (c.deselect.ensures (machine c.args.
 
 pub returns-in-Units : goal.returns-in-Units
 unfolding step unitwise
-returns-in-Units c = rw (c.in-Units.is, ← c.wide_short.ensures) (c.work.ensures (machine c.args.s c.args.cells.now c.args.cache.now c.args.counts.now), over_none c.args.out.now c.args.at)
+returns-in-Units c = rw (c.in-Units.is, ← c.from.ensures) (c.work.ensures (machine c.args.s c.args.cells.now c.args.cache.now c.args.counts.now), over_none c.args.out.now c.args.at)
 
 pub returns-in-Level : goal.returns-in-Level
 unfolding step
