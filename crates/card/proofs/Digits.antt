@@ -1,23 +1,17 @@
--- The bits of a byte, as shifts give them.
-use mathlib.Core.Path.{◌≡◌, refl}
-use Prim.Native.Nat.{ℕ, zero, suc, ◌*◌, ◌/◌, ◌%◌, ◌^◌, ◌≤◌, ◌<◌}
-use native.Mathlib.Nat.{div-mul-le_self, mod-eq_of_lt, mul-le-mul_right, one-mul}
+-- A bit of a byte made 0, as the code's mask does it.
+use mathlib.Core.Path.{◌≡◌}
+use Prim.Native.Nat.{ℕ, ◌+◌, ◌-◌, ◌*◌, ◌/◌, ◌%◌, ◌^◌, ◌<◌}
+use native.Mathlib.Nat.{mod-eq_of_lt, one-mul}
 use native.Mathlib.Omega.{arith}
 use lib.Pow.{pow_mono}
+use Rattle.std.specs.Int.Bits.{bit_and}
+use Rattle.std.proofs.lemmas.Nat.{and_comm, and-not}
+use Rattle.std.proofs.lemmas.Nat.Bits.{and_pow}
 
--- two to the power of a bit's place in a byte is a byte
-pub weight : (k : ℕ) → k < 8 → 1 * 2 ^ k % 256 ≡ 2 ^ k
-weight k h = rw (one-mul (2 ^ k)) (mod-eq_of_lt (omega (arith, pow_mono {i = k} {j = 7} (omega arith))))
-
--- a bit that is not 0 is 1, and the number is no less than its weight
-pub set_one : (b k : ℕ) → (b / 2 ^ k % 2 ≡ 0 → ⊥) → b / 2 ^ k % 2 ≡ 1
-set_one b k n = go (b / 2 ^ k % 2) (omega arith) n
-  where
-    go : (x : ℕ) → x < 2 → (x ≡ 0 → ⊥) → x ≡ 1
-    go zero h n = absurd (n refl)
-    go (suc x) h n = omega arith
-
-pub set_most : (b k : ℕ) → (b / 2 ^ k % 2 ≡ 0 → ⊥) → 2 ^ k ≤ b
-set_most b k n =
-    let q : 1 ≤ b / 2 ^ k = omega (arith, set_one b k n) in
-    omega (arith, mul-le-mul_right (2 ^ k) q, div-mul-le_self b (2 ^ k), one-mul (2 ^ k))
+-- the mask of all bits but one takes that bit's weight away, where the bit is 1
+pub cleared : (b k : ℕ) → b < 256 → k < 8 → bit_and b (255 - 1 * 2 ^ k % 256) ≡ b - b / 2 ^ k % 2 * 2 ^ k
+cleared b k h i =
+    let most : 2 ^ k < 256 = omega (arith, pow_mono {i = k} {j = 7} (omega arith)) in
+    let weight : 1 * 2 ^ k % 256 ≡ 2 ^ k = rw (one-mul (2 ^ k)) (mod-eq_of_lt most) in
+    let both : bit_and (255 - 2 ^ k) b + bit_and (2 ^ k) b ≡ b = and-not 8 (2 ^ k) b most h in
+    rw (weight, and_comm b (255 - 2 ^ k)) (omega (arith, both, and_comm (2 ^ k) b, and_pow b k))

@@ -1,4 +1,5 @@
 // The card FM4428: what one command answers and changes. Document 02, item 5, and source document 001.
+// Buffers are lent one by one: `slot` says why.
 #![tactic(auto)]
 
 ghost use Rattle.std.specs.Prelude.{◌&&◌, ◌≡◌, ◌+◌, ◌-◌, ◌*◌, ◌/◌, ◌%◌, ◌^◌, ◌≤◌, ◌<◌, eqb, length, set, if◌then◌else◌};
@@ -8,7 +9,7 @@ ghost use Rattle.card.specs.Table.{address_of, command_of};
 ghost use Rattle.card.specs.Card.{card, is_open, cell_at, bit_at, shut, clears_one, spends, writable, anew, counted, compared, commanded, told, answer_of, answer_length, sent};
 
 // How far the security code has been given: no step taken, a counter bit newly cleared, the first byte compared right too, passed.
-#[derive(Clone, Copy)]
+#[derive(Clone, Copy, Debug, PartialEq, Eq)]
 pub enum Stage {
     Fresh,
     Counted,
@@ -16,8 +17,8 @@ pub enum Stage {
     Open,
 }
 
-// 001's seven commands, in its order; and what is none of them.
-#[derive(Clone, Copy)]
+// 001's seven commands, in its order; and what is none of them, which is answered and changes the stage as a command does.
+#[derive(Clone, Copy, Debug, PartialEq, Eq)]
 pub enum Command {
     WriteWithBit,
     Write,
@@ -34,12 +35,7 @@ impl Stage {
     fn is_open(self) -> bool
         ensures { result ≡ is_open self }
     {
-        match self {
-            Stage::Fresh => false,
-            Stage::Counted => false,
-            Stage::Half => false,
-            Stage::Open => true,
-        }
+        self == Stage::Open
     }
 
     // After any command that is no step: passing holds, and else the code has to be given anew.
@@ -47,9 +43,7 @@ impl Stage {
         ensures { result ≡ anew self }
     {
         match self {
-            Stage::Fresh => Stage::Fresh,
-            Stage::Counted => Stage::Fresh,
-            Stage::Half => Stage::Fresh,
+            Stage::Fresh | Stage::Counted | Stage::Half => Stage::Fresh,
             Stage::Open => Stage::Open,
         }
     }
@@ -59,12 +53,12 @@ impl Stage {
         ensures { result ≡ counted self cleared }
     {
         if self.is_open() {
-            return Stage::Open;
+            Stage::Open
+        } else if cleared {
+            Stage::Counted
+        } else {
+            Stage::Fresh
         }
-        if cleared {
-            return Stage::Counted;
-        }
-        Stage::Fresh
     }
 
     // After a compare at an address.
@@ -72,26 +66,10 @@ impl Stage {
         ensures { result ≡ compared self a right }
     {
         match self {
-            Stage::Fresh => Stage::Fresh,
-            Stage::Counted => {
-                if a != 1022 {
-                    return Stage::Fresh;
-                }
-                if !right {
-                    return Stage::Fresh;
-                }
-                Stage::Half
-            }
-            Stage::Half => {
-                if a != 1023 {
-                    return Stage::Fresh;
-                }
-                if !right {
-                    return Stage::Fresh;
-                }
-                Stage::Open
-            }
+            Stage::Counted if a == 1022 && right => Stage::Half,
+            Stage::Half if a == 1023 && right => Stage::Open,
             Stage::Open => Stage::Open,
+            _ => Stage::Fresh,
         }
     }
 }
@@ -100,10 +78,11 @@ impl Stage {
 pub fn address_of(first: u8, second: u8) -> usize
     ensures { result ≡ address_of first second }
 {
-    (first as usize) / 64 * 256 + (second as usize)
+    usize::from(first / 64) * 256 + usize::from(second)
 }
 
 // The command of a control word at an address.
+#[tactic(auto, unfolding(crate::specs::Table::command_of))]
 fn command_of(word: u8, a: usize) -> Command
     ensures { result ≡ command_of word a }
 {
@@ -113,21 +92,8 @@ fn command_of(word: u8, a: usize) -> Command
         0x30 => Command::Protect,
         0x0C => Command::ReadWithBit,
         0x0E => Command::Read,
-        0x32 => {
-            if a == 1021 {
-                return Command::Count;
-            }
-            Command::Ignored
-        }
-        0x0D => {
-            if a == 1022 {
-                return Command::Compare;
-            }
-            if a == 1023 {
-                return Command::Compare;
-            }
-            Command::Ignored
-        }
+        0x32 if a == 1021 => Command::Count,
+        0x0D if a == 1022 || a == 1023 => Command::Compare,
         _ => Command::Ignored,
     }
 }
@@ -144,14 +110,14 @@ pub fn answer_length(k: Command) -> usize
     ensures { result ≡ answer_length k }
 {
     match k {
-        Command::WriteWithBit => 1,
-        Command::Write => 1,
-        Command::Protect => 1,
         Command::ReadWithBit => 2,
-        Command::Read => 1,
-        Command::Count => 1,
-        Command::Compare => 1,
-        Command::Ignored => 1,
+        Command::WriteWithBit
+        | Command::Write
+        | Command::Protect
+        | Command::Read
+        | Command::Count
+        | Command::Compare
+        | Command::Ignored => 1,
     }
 }
 
@@ -172,31 +138,29 @@ fn bit_at(bits: &[u8], a: usize) -> u8
 }
 
 // A byte with bit k made 0.
+#[tactic(auto, using(crate::proofs::Digits::cleared))]
 fn without(b: u8, k: usize) -> u8
     requires { k < 8 }
     ensures { result ≡ b - b / 2 ^ k % 2 * 2 ^ k }
 {
-    if digit(b, k) == 0 {
-        return b;
-    }
-    b - (1 << k)
+    b & !(1 << k)
 }
 
 // The protect bit of an address made 0.
+#[tactic(auto, unfolding(crate::specs::Card::shut))]
 fn shut(bits: &mut [u8], a: usize)
     requires { a / 8 < length bits.old }
     ensures { bits.new ≡ shut bits.old a }
 {
-    let i = a / 8;
-    let b = without(bits[i], a % 8);
-    bits[i] = b;
+    bits[a / 8] = without(bits[a / 8], a % 8);
 }
 
 // Whether a mask clears exactly one bit of the counter.
+#[tactic(auto, unfolding(crate::specs::Card::clears_one))]
 fn clears_one(old: u8, mask: u8) -> bool
     ensures { result ≡ clears_one old mask }
 {
-    u8::count_ones(old) == u8::count_ones(old & mask) + 1
+    old.count_ones() == (old & mask).count_ones() + 1
 }
 
 // Whether the byte at an address can be written.
@@ -204,10 +168,7 @@ fn writable(stage: Stage, bits: &[u8], a: usize) -> bool
     requires { a / 8 < length bits.now }
     ensures { result ≡ writable stage bits.now a }
 {
-    if !stage.is_open() {
-        return false;
-    }
-    bit_at(bits, a) == 1
+    stage.is_open() && bit_at(bits, a) == 1
 }
 
 // A write, and whether it was done.
@@ -216,11 +177,11 @@ fn write(stage: Stage, a: usize, d: u8, cells: &mut [u8], bits: &[u8]) -> bool
     ensures { (result ≡ writable stage bits.now a)
         × (cells.new ≡ (if writable stage bits.now a then set cells.old a d else cells.old)) }
 {
-    if !writable(stage, bits, a) {
-        return false;
+    let done = writable(stage, bits, a);
+    if done {
+        cells[a] = d;
     }
-    cells[a] = d;
-    true
+    done
 }
 
 // A write with protect bit.
@@ -239,10 +200,7 @@ fn protect(stage: Stage, a: usize, d: u8, cells: &[u8], bits: &mut [u8])
     requires { (a < length cells.now) × (a / 8 < length bits.old) }
     ensures { bits.new ≡ (if is_open stage && eqb (cell_at cells.now a) d then shut bits.old a else bits.old) }
 {
-    if !stage.is_open() {
-        return;
-    }
-    if cells[a] == d {
+    if stage.is_open() && cells[a] == d {
         shut(bits, a);
     }
 }
@@ -256,18 +214,15 @@ fn count(a: usize, mask: u8, cells: &mut [u8], bits: &[u8]) -> bool
         then set cells.old a (bit_and (cell_at cells.old a) mask)
         else cells.old)) }
 {
-    if bit_at(bits, a) != 1 {
-        return false;
+    let cleared = bit_at(bits, a) == 1 && clears_one(cells[a], mask);
+    if cleared {
+        cells[a] &= mask;
     }
-    let old = cells[a];
-    if !clears_one(old, mask) {
-        return false;
-    }
-    cells[a] = old & mask;
-    true
+    cleared
 }
 
 // One command done, at its address, with its third byte: the stage then.
+#[tactic(auto, unfolding(crate::specs::Card::commanded))]
 pub fn perform(
     stage: Stage,
     k: Command,
@@ -292,14 +247,12 @@ pub fn perform(
             protect(stage, a, d, &*cells, bits);
             stage.anew()
         }
-        Command::ReadWithBit => stage.anew(),
-        Command::Read => stage.anew(),
+        Command::ReadWithBit | Command::Read | Command::Ignored => stage.anew(),
         Command::Count => {
             let cleared = count(a, d, cells, &*bits);
             stage.counted(cleared)
         }
         Command::Compare => stage.compared(a, cells[a] == d),
-        Command::Ignored => stage.anew(),
     }
 }
 
@@ -308,16 +261,15 @@ fn told(stage: Stage, cells: &[u8], a: usize) -> u8
     requires { a < length cells.now }
     ensures { result ≡ told stage cells.now a }
 {
-    if stage.is_open() {
-        return cells[a];
+    if stage.is_open() || a < 1022 {
+        cells[a]
+    } else {
+        0
     }
-    if a < 1022 {
-        return cells[a];
-    }
-    0
 }
 
 // A command's answer, at a place of the lent output.
+#[tactic(auto, using(buslog::proofs::RoundTrip::over_one, crate::proofs::Stored::over_two))]
 pub fn answer(
     stage: Stage,
     k: Command,
@@ -338,22 +290,12 @@ pub fn answer(
         Command::Read => {
             out[at] = told(stage, cells, a);
         }
-        Command::WriteWithBit => {
-            out[at] = 0xFF;
-        }
-        Command::Write => {
-            out[at] = 0xFF;
-        }
-        Command::Protect => {
-            out[at] = 0xFF;
-        }
-        Command::Count => {
-            out[at] = 0xFF;
-        }
-        Command::Compare => {
-            out[at] = 0xFF;
-        }
-        Command::Ignored => {
+        Command::WriteWithBit
+        | Command::Write
+        | Command::Protect
+        | Command::Count
+        | Command::Compare
+        | Command::Ignored => {
             out[at] = 0xFF;
         }
     }

@@ -3,6 +3,10 @@ use mathlib.Core.Path.{ap, ◌∙◌, sym}
 use Rattle.part.specs.OneAnswer.{OneAnswer, OneEnd}
 use Rattle.slot.proofs.OneAnswer.{Lent, lent}
 use Rattle.card_face.specs.Face.{CEnd}
+use Rattle.card_face.proofs.CCardFromStage.from.Reads as card-from-reads
+use Rattle.card_face.proofs.CCardFromStage.from.Kinds as card-from-kinds
+use Rattle.card_face.proofs.CCardAnswerFromAnswer.from.Reads as answer-from-reads
+use Rattle.card_face.proofs.CCardAnswerFromAnswer.from.Kinds as answer-from-kinds
 use Rattle.card_face.proofs.sleet_card_power_up.Reads as power-up-reads
 use Rattle.card_face.proofs.sleet_card_power_up.Kinds as power-up-kinds
 use Rattle.card_face.proofs.sleet_card_run.Reads as run-reads
@@ -13,6 +17,12 @@ use Rattle.card_face.proofs.sleet_card_command.Kinds as command-kinds
 -- cells, protect bits and output of an end
 abbrev lent_of : CEnd → Lent
 lent_of e = lent e.cells e.bits e.out
+
+pub card_from_one : OneAnswer 0 card-from-kinds.ps card-from-kinds.r card-from-reads.Post
+card_from_one κs a x y s t p q = p ∙ sym q
+
+pub answer_from_one : OneAnswer 0 answer-from-kinds.ps answer-from-kinds.r answer-from-reads.Post
+answer_from_one κs a x y s t p q = p ∙ sym q
 
 pub power_up_one : OneAnswer 0 power-up-kinds.ps power-up-kinds.r power-up-reads.Post
 power_up_one κs a x y s t p q = p ∙ sym q

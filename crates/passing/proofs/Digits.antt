@@ -2,13 +2,14 @@
 use mathlib.Core.Bool.{Bool, true, false}
 use mathlib.Core.Path.{◌≡◌, refl, sym, ap, ◌∙◌}
 use Prim.Native.Nat.{ℕ, zero, suc, ◌+◌, ◌/◌, ◌%◌, ◌^◌, ◌≤◌, min}
-use native.Mathlib.Nat.{div-one, div-div-eq-div-mul, pow-succ'}
+use native.Mathlib.Nat.{div-div-eq-div-mul, pow-succ'}
 use native.Mathlib.Omega.{arith}
 use lib.Arith.{bin_ind}
 use lib.Bits.{bit_and, and_shr}
 use lib.Count.{ones, ones_in, ones_step}
 use lib.Dec.{eqb}
 use borrow.Author.Tests.{eqb-true, eqb-false, eq-eqb}
+use Rattle.std.proofs.lemmas.Nat.Bits.{bit_at_lowest, bit_at_and, same_from_bits}
 use Rattle.part.proofs.Bits.{and_odd}
 use Rattle.card.specs.Card.{clears_one}
 use Rattle.passing.specs.Promises.{OneBitLess, ClearsExactly}
@@ -19,44 +20,26 @@ use Rattle.passing.specs.Promises.{OneBitLess, ClearsExactly}
 pub half_digit : (n k : ℕ) → n / 2 / 2 ^ k ≡ n / 2 ^ suc k
 half_digit n k = div-div-eq-div-mul n 2 (2 ^ k) ∙ ap (λ (x : ℕ). n / x) (sym (pow-succ' 2 k))
 
--- the lowest
-low_digit : (n : ℕ) → n / 2 ^ 0 % 2 ≡ n % 2
-low_digit n = ap (λ (x : ℕ). x % 2) (div-one n)
-
 -- the half of an AND
 and_half : (a b : ℕ) → bit_and a b / 2 ≡ bit_and (a / 2) (b / 2)
 and_half a b = and_shr a b 1
 
 -- an AND has no digit that the number has not
 pub and_digit : (a b k : ℕ) → bit_and a b / 2 ^ k % 2 ≤ a / 2 ^ k % 2
-and_digit a b k = rw (and_shr a b k) (omega (arith, and_odd (a / 2 ^ k) (b / 2 ^ k)))
-
--- numbers with the same digits are the same
-same_digits : (a b : ℕ) → ((k : ℕ) → a / 2 ^ k % 2 ≡ b / 2 ^ k % 2) → a ≡ b
-same_digits a = bin_ind (λ (a : ℕ). (b : ℕ) → ((k : ℕ) → a / 2 ^ k % 2 ≡ b / 2 ^ k % 2) → a ≡ b) none more a
-  where
-    halves : (a b : ℕ) → ((k : ℕ) → a / 2 ^ k % 2 ≡ b / 2 ^ k % 2) → (k : ℕ) → a / 2 / 2 ^ k % 2 ≡ b / 2 / 2 ^ k % 2
-    halves a b h k = rw (half_digit a k, half_digit b k) (h (suc k))
-
-    more : (a : ℕ) → ((b : ℕ) → ((k : ℕ) → a / 2 / 2 ^ k % 2 ≡ b / 2 ^ k % 2) → a / 2 ≡ b) → (b : ℕ) → ((k : ℕ) → a / 2 ^ k % 2 ≡ b / 2 ^ k % 2) → a ≡ b
-    more a ih b h = omega (arith, ih (b / 2) (halves a b h), h 0, low_digit a, low_digit b)
-
-    none : (b : ℕ) → ((k : ℕ) → 0 / 2 ^ k % 2 ≡ b / 2 ^ k % 2) → 0 ≡ b
-    none b = bin_ind (λ (b : ℕ). ((k : ℕ) → 0 / 2 ^ k % 2 ≡ b / 2 ^ k % 2) → 0 ≡ b) (λ h. refl)
-        (λ b ih h. omega (arith, ih (halves 0 b h), h 0, low_digit 0, low_digit b)) b
+and_digit a b k = omega (arith, bit_at_and a b k)
 
 -- ---- one digit fewer
 
 -- there is one more to count
 less_ones : (k old new : ℕ) → old / 2 ^ k % 2 ≡ 1 → new / 2 ^ k % 2 ≡ 0 → ((j : ℕ) → ¬ (j ≡ k) → new / 2 ^ j % 2 ≡ old / 2 ^ j % 2) → ones old ≡ ones new + 1
 less_ones zero old new w i o =
-    let e : old / 2 ≡ new / 2 = same_digits (old / 2) (new / 2) (λ j. rw (half_digit old j, half_digit new j) (sym (o (suc j) (λ z. omega arith)))) in
+    let e : old / 2 ≡ new / 2 = same_from_bits (old / 2) (new / 2) (λ j. rw (half_digit old j, half_digit new j) (sym (o (suc j) (λ z. omega arith)))) in
     let c : ones (old / 2) ≡ ones (new / 2) = ap ones e in
-    omega (arith, ones_step old, ones_step new, low_digit old, low_digit new)
+    omega (arith, ones_step old, ones_step new, bit_at_lowest old, bit_at_lowest new)
 less_ones (suc k) old new w i o =
     let c : ones (old / 2) ≡ ones (new / 2) + 1 =
     less_ones k (old / 2) (new / 2) (rw (half_digit old k) w) (rw (half_digit new k) i) (λ j f. rw (half_digit old j, half_digit new j) (o (suc j) (λ z. f (omega arith)))) in
-    omega (arith, ones_step old, ones_step new, o 0 (λ z. omega arith), low_digit old, low_digit new)
+    omega (arith, ones_step old, ones_step new, o 0 (λ z. omega arith), bit_at_lowest old, bit_at_lowest new)
 
 -- an AND has no more digits set than the number
 and_ones : (a b : ℕ) → ones (bit_and a b) ≤ ones a
@@ -86,8 +69,8 @@ lost_low : (old mask : ℕ) → ¬ (min (old % 2) (mask % 2) ≡ old % 2) → bi
 lost_low old mask f e =
     record {
       bit = 0;
-      was = omega (arith, low_digit old);
-      is = omega (arith, low_digit (bit_and old mask), and_odd old mask);
+      was = omega (arith, bit_at_lowest old);
+      is = omega (arith, bit_at_lowest (bit_and old mask), and_odd old mask);
       others = others;
     }
   where
@@ -106,7 +89,7 @@ lost_above old mask e x =
     }
   where
     others : (k : ℕ) → ¬ (k ≡ suc x.bit) → bit_and old mask / 2 ^ k % 2 ≡ old / 2 ^ k % 2
-    others zero g = omega (arith, low_digit (bit_and old mask), low_digit old, and_odd old mask)
+    others zero g = omega (arith, bit_at_lowest (bit_and old mask), bit_at_lowest old, and_odd old mask)
     others (suc k) g = and_next old mask k ∙ x.others k (λ z. g (ap suc z)) ∙ ap (λ (x : ℕ). x % 2) (half_digit old k)
 
 -- so wherever it has one fewer to count, it has lost one

@@ -8,13 +8,12 @@ use lib.Dec.{ltb}
 use lib.ListN.{length, drop, length-append, length-drop}
 use borrow.Author.Tests.{ltb-true, ltb-false}
 use Rattle.part.proofs.Choice.{cond_keep}
+use Rattle.std.specs.Prelude.{Result, Ok, Err}
 use Rattle.buslog.specs.Write.{over}
 use Rattle.buslog.proofs.RoundTrip.{over_behind}
 use Rattle.cardlog.specs.Log.{bytes_of, written}
 use Rattle.cardlog.specs.Read.{found, front, next_of, parse}
 use Rattle.cardlog.specs.declared.Record.{Record}
-use Rattle.cardlog.specs.declared.Next.{Next}
-use Rattle.cardlog.specs.declared.Next.TheVariants.{Found, Stop}
 use Rattle.cardlog.specs.declared.Why.{Why}
 use Rattle.cardlog.proofs.Logs.{body_of, front_body, length_written}
 use Rattle.cardlog.proofs.Promises.{found_front, stop_front}
@@ -25,8 +24,6 @@ use Rattle.slot.specs.Runs.{Outcome, and_then, bytes_out, did, ran_of, seen, sho
 use Rattle.slot.specs.declared.Refusal.{Refusal}
 use Rattle.slot.specs.declared.Refusal.TheVariants.{Done, NoRoom}
 use Rattle.slot.specs.declared.Walk.{Walk}
-use Rattle.slot.specs.declared.Went.{Went}
-use Rattle.slot.specs.declared.Went.TheVariants.{On, Off}
 use Rattle.slot.proofs.Turns.{further}
 use Rattle.slot.proofs.Rooms.{puts_length, left_ends, left_full, left_next}
 
@@ -83,11 +80,11 @@ module _ (log out₀ : List ℕ) (c₀ : Card) where
         (h.lies ∙ ap (λ (n : ℕ). h.bytes ++ drop n out₀) (sym h.long)))
         ∙ ap (λ (o : Outcome). shown o out₀) o
 
-    pub going_ends : (why : Why) → next_of log w.at ≡ Stop why → Seen (refusal_of why)
+    pub going_ends : (why : Why) → next_of log w.at ≡ Err why → Seen (refusal_of why)
     unfolding next_of
     going_ends why p = stop_with (refusal_of why) (left_ends (length out₀ - w.written) log w.at c why (stop_front w.at (front (drop w.at log)) why p))
 
-    pub going_full : (e : Record) (n : ℕ) → next_of log w.at ≡ Found e n → length out₀ - w.written < takes e → Seen NoRoom
+    pub going_full : (e : Record) (n : ℕ) → next_of log w.at ≡ Ok (e, n) → length out₀ - w.written < takes e → Seen NoRoom
     unfolding next_of
     going_full e n p k =
         let f = found_front w.at (front (drop w.at log)) e n p in
@@ -129,7 +126,7 @@ module _ (log out₀ : List ℕ) (c₀ : Card) where
           regroup (written_one e ∙ ap suc (front_body (drop w.at log) e n p))
           ∙ ap (on_top w.records w.at h.bytes) (sym (left_next (length out₀ - w.written) log w.at c e n p k)) ∙ h.same
 
-    pub going_next : (e : Record) (n : ℕ) → next_of log w.at ≡ Found e n → takes e ≤ length out₀ - w.written
+    pub going_next : (e : Record) (n : ℕ) → next_of log w.at ≡ Ok (e, n) → takes e ≤ length out₀ - w.written
         → Going (behind w (step c e).stage n (takes e)) (over out w.written (puts c e)) (step c e)
     unfolding next_of left
     going_next e n p k =
@@ -150,18 +147,18 @@ module _ (log out₀ : List ℕ) (c₀ : Card) where
   -- ---- a turn
 
   -- what it leaves: the run stands behind the record, further on, or it has ended as the whole run does
-  abbrev pub Left : Walk → Went → Card → List ℕ → Type 0
-  Left w (On x) c out = (w.at < x.at) × Going x out c
-  Left w (Off r) c out = seen (answered r w) c.cells c.bits out ≡ shown whole out₀
+  abbrev pub Left : Walk → Result Walk Refusal → Card → List ℕ → Type 0
+  Left w (Ok x) c out = (w.at < x.at) × Going x out c
+  Left w (Err r) c out = seen (answered r w) c.cells c.bits out ≡ shown whole out₀
 
   abbrev LeftBy : Walk → Turned → Type 0
   LeftBy w t = Left w t.went t.card t.out
 
   module _ (w : Walk) (out : List ℕ) (c : Card) (h : Going w out c) where
-    turn_leaves : (n : Next) → next_of log w.at ≡ n → LeftBy w (turn_of w n c out)
+    turn_leaves : (n : Result (Record × ℕ) Why) → next_of log w.at ≡ n → LeftBy w (turn_of w n c out)
     unfolding turn_of
-    turn_leaves (Stop why) p = going_ends w out c h why p
-    turn_leaves (Found e n) p =
+    turn_leaves (Err why) p = going_ends w out c h why p
+    turn_leaves (Ok (e, n)) p =
         cond_keep (LeftBy w) (ltb (length out - w.written) (takes e))
         (λ k. going_full w out c h e n p (omega (arith, ltb-true (length out - w.written) (takes e) k, out_long w out c h)))
         (λ k. (
@@ -170,12 +167,12 @@ module _ (log out₀ : List ℕ) (c₀ : Card) where
         ))
 
     -- the same of what the code has: the card behind a turn holds the stage that came with it
-    module _ (r : Went) (cells bits out₁ : List ℕ) (t : turned r (card (stage_then w r) cells bits) out₁ ≡ turn_of w (next_of log w.at) c out) where
+    module _ (r : Result Walk Refusal) (cells bits out₁ : List ℕ) (t : turned r (card (stage_then w r) cells bits) out₁ ≡ turn_of w (next_of log w.at) c out) where
       left_as : Left w r (card (stage_then w r) cells bits) out₁
       left_as = subst⁻¹ (LeftBy w) t (turn_leaves (next_of log w.at) refl)
 
-      pub going_on : (x : Walk) → r ≡ On x → (w.at < x.at) × Going x out₁ (card x.stage cells bits)
-      going_on x q = subst (λ (y : Went). Left w y (card (stage_then w y) cells bits) out₁) q left_as
+      pub going_on : (x : Walk) → r ≡ Ok x → (w.at < x.at) × Going x out₁ (card x.stage cells bits)
+      going_on x q = subst (λ (y : Result Walk Refusal). Left w y (card (stage_then w y) cells bits) out₁) q left_as
 
-      pub going_off : (why : Refusal) → r ≡ Off why → seen (answered why w) cells bits out₁ ≡ shown whole out₀
-      going_off why q = subst (λ (y : Went). Left w y (card (stage_then w y) cells bits) out₁) q left_as
+      pub going_off : (why : Refusal) → r ≡ Err why → seen (answered why w) cells bits out₁ ≡ shown whole out₀
+      going_off why q = subst (λ (y : Result Walk Refusal). Left w y (card (stage_then w y) cells bits) out₁) q left_as

@@ -6,6 +6,8 @@ use Rattle.part.specs.OneAnswer.{OneAnswer, OneEnd}
 use Rattle.slot.specs.Runs.{End}
 use Rattle.slot.proofs.number.Reads as number-reads
 use Rattle.slot.proofs.number.Kinds as number-kinds
+use Rattle.slot.proofs.RefusalFromWhy.from.Reads as from-reads
+use Rattle.slot.proofs.RefusalFromWhy.from.Kinds as from-kinds
 use Rattle.slot.proofs.run.Reads as run-reads
 use Rattle.slot.proofs.run.Kinds as run-kinds
 use Rattle.slot.proofs.command.Reads as command-reads
@@ -26,6 +28,9 @@ lent_of e = lent e.cells e.bits e.out
 
 pub number_one : OneAnswer 0 number-kinds.ps number-kinds.r number-reads.Post
 number_one κs a x y s t p q = p ∙ sym q
+
+pub refusal_from_one : OneAnswer 0 from-kinds.ps from-kinds.r from-reads.Post
+refusal_from_one κs a x y s t p q = p ∙ sym q
 
 pub run_one : OneEnd 4 run-kinds.ps run-kinds.r Lent (λ κs s. lent s.1.1.0.now s.1.1.1.0.now s.1.1.1.1.0.now) run-reads.Post
 run_one κs a x y s t p q = (ap (λ (e : End). e.answer) (p ∙ sym q), ap lent_of (p ∙ sym q))

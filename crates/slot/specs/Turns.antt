@@ -1,8 +1,7 @@
 -- The checks of a run, and one turn of it: where a run stands, and the record at its place done.
-use Rattle.std.specs.Prelude.{not, List, ◌≡◌, ℕ, ◌+◌, ◌-◌, ◌≤◌, eqb, ltb, length, if◌then◌else◌}
+use Rattle.std.specs.Prelude.{not, List, ◌≡◌, ℕ, ◌+◌, ◌-◌, ◌≤◌, eqb, ltb, length, Result, Ok, Err, if◌then◌else◌}
 use Rattle.buslog.specs.Write.{over}
-use Rattle.cardlog.specs.declared.Next.{Next}
-use Rattle.cardlog.specs.declared.Next.TheVariants.{Found, Stop}
+use Rattle.cardlog.specs.declared.Record.{Record}
 use Rattle.cardlog.specs.declared.Why.{Why}
 use Rattle.cardlog.specs.declared.Why.TheVariants as why
 use Rattle.card.specs.Card.{Card, step, takes, puts}
@@ -11,8 +10,6 @@ use Rattle.slot.specs.declared.Answer.{Answer}
 use Rattle.slot.specs.declared.Refusal.{Refusal}
 use Rattle.slot.specs.declared.Refusal.TheVariants.{Done, BadCells, BadBits, BadKind, ShortBody, NoRoom}
 use Rattle.slot.specs.declared.Walk.{Walk}
-use Rattle.slot.specs.declared.Went.{Went}
-use Rattle.slot.specs.declared.Went.TheVariants.{On, Off}
 
 -- the numbers of refusal
 abbrev pub number_of : Refusal → ℕ
@@ -67,23 +64,23 @@ pub record Stands (w : Walk) (log out : List ℕ) : Type 0 where
 
 -- what it comes to, the card then, and the output
 pub record Turned : Type 0 where
-  pub went : Went
+  pub went : Result Walk Refusal
   pub card : Card
   pub out : List ℕ
 
 -- the three together
-abbrev pub turned : Went → Card → List ℕ → Turned
+abbrev pub turned : Result Walk Refusal → Card → List ℕ → Turned
 turned r c out = record { went = r; card = c; out = out }
 
 -- the stage then: a run that goes off keeps its own
-abbrev pub stage_then : Walk → Went → Stage
-stage_then w (On x) = x.stage
-stage_then w (Off r) = w.stage
+abbrev pub stage_then : Walk → Result Walk Refusal → Stage
+stage_then w (Ok x) = x.stage
+stage_then w (Err r) = w.stage
 
 -- 6 and 7 where there is no record; 9 where its answer has no room; else it is done, and its answer stands behind the bytes written
-unfoldable pub turn_of : Walk → Next → Card → List ℕ → Turned
-turn_of w (Stop y) c out = turned (Off (refusal_of y)) c out
-turn_of w (Found e place) c out =
+unfoldable pub turn_of : Walk → Result (Record × ℕ) Why → Card → List ℕ → Turned
+turn_of w (Err y) c out = turned (Err (refusal_of y)) c out
+turn_of w (Ok (e, place)) c out =
     let c₁ = step c e in
-    if ltb (length out - w.written) (takes e) then turned (Off NoRoom) c out
-    else turned (On (behind w c₁.stage place (takes e))) c₁ (over out w.written (puts c e))
+    if ltb (length out - w.written) (takes e) then turned (Err NoRoom) c out
+    else turned (Ok (behind w c₁.stage place (takes e))) c₁ (over out w.written (puts c e))

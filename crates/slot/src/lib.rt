@@ -1,4 +1,6 @@
 // The card slot: a card log run on a card, every input answered. Document 02, item 5.
+// Buffers are lent one by one, and not as one struct: a struct of `&mut`s would have each contract say as well that each is still the
+// same reference, a clause more for each.
 #![tactic(auto)]
 
 ghost use Rattle.std.specs.Prelude.{◌≡◌, ◌+◌, ◌≤◌, length};
@@ -11,10 +13,11 @@ ghost use Rattle.slot.specs.Turns.{number_of, refusal_of, start_of, answered, Fi
 ghost use Rattle.slot.specs.Runs.{ran_of, run_of, seen, shown};
 
 use card::Stage;
-use cardlog::{Next, Record, Why};
+use cardlog::{Record, Why};
 
-// The answers of a run: document 02's numbers 0, 17, 18, 6, 7 and 9.
-#[derive(Clone, Copy)]
+// The answers of a run: document 02's numbers 0, 17, 18, 6, 7 and 9. `Done` is one of them, and no value beside them, since that table has
+// a number for it, 0, of which the theorems on the answers speak (`Exactly` in card_answers).
+#[derive(Clone, Copy, Debug, PartialEq, Eq)]
 pub enum Refusal {
     Done,
     BadCells,
@@ -25,7 +28,7 @@ pub enum Refusal {
 }
 
 // Where a run stands: the stage, the place in the log, the records done, the output bytes written.
-#[derive(Clone, Copy)]
+#[derive(Clone, Copy, Debug, PartialEq, Eq)]
 pub struct Walk {
     pub stage: Stage,
     pub at: usize,
@@ -33,15 +36,8 @@ pub struct Walk {
     pub written: usize,
 }
 
-// What a turn comes to: on behind the record, or off with a refusal and nothing done.
-#[derive(Clone, Copy)]
-pub enum Went {
-    On(Walk),
-    Off(Refusal),
-}
-
-// The answer to a run: the refusal, the stage, and how far it went.
-#[derive(Clone, Copy)]
+// The answer to a run: the refusal, the stage, and how far it went. (No Result: how far it went holds with a refusal too.)
+#[derive(Clone, Copy, Debug, PartialEq, Eq)]
 pub struct Answer {
     pub refusal: Refusal,
     pub stage: Stage,
@@ -50,7 +46,7 @@ pub struct Answer {
     pub written: usize,
 }
 
-// The number of a refusal.
+// The number of a refusal, which C is told.
 pub fn number(r: Refusal) -> u8
     ensures { result ≡ number_of r }
 {
@@ -64,14 +60,16 @@ pub fn number(r: Refusal) -> u8
     }
 }
 
-// The refusal for a reason to stop.
-fn refusal_of(why: Why) -> Refusal
-    ensures { result ≡ refusal_of why }
-{
-    match why {
-        Why::End => Refusal::Done,
-        Why::BadKind => Refusal::BadKind,
-        Why::ShortBody => Refusal::ShortBody,
+impl From<Why> for Refusal {
+    ghost from_gives = { λ w r. r ≡ refusal_of w };
+
+    // The refusal for a reason to stop.
+    fn from(why: Why) -> Refusal {
+        match why {
+            Why::End => Refusal::Done,
+            Why::BadKind => Refusal::BadKind,
+            Why::ShortBody => Refusal::ShortBody,
+        }
     }
 }
 
@@ -81,7 +79,7 @@ impl Walk {
         ensures { result ≡ start_of stage }
     {
         Walk {
-            stage: stage,
+            stage,
             at: 0,
             records: 0,
             written: 0,
@@ -89,13 +87,12 @@ impl Walk {
     }
 
     // What was done so far, and why no more is.
-    fn so_far(self, r: Refusal) -> Answer
-        ensures { result ≡ answered r self }
+    fn so_far(self, refusal: Refusal) -> Answer
+        ensures { result ≡ answered refusal self }
     {
-        let s = self.stage;
         Answer {
-            refusal: r,
-            stage: s,
+            refusal,
+            stage: self.stage,
             records: self.records,
             used: self.at,
             written: self.written,
@@ -114,6 +111,7 @@ fn room_of(e: Record) -> usize
 }
 
 // One record done, its answer at a place of the lent output.
+#[tactic(auto, using(buslog::proofs::RoundTrip::over_none), unfolding(card::specs::Card::step))]
 fn turn(
     stage: Stage,
     e: Record,
@@ -137,35 +135,35 @@ fn turn(
     }
 }
 
-// One turn of a run: the record at its place is done, if there is one and its answer has room.
-#[tactic(auto, using(crate::proofs::Turns::turn_full, crate::proofs::Turns::turn_goes, crate::proofs::Turns::turn_stops))]
-fn onward(w: Walk, log: &[u8], cells: &mut [u8], bits: &mut [u8], out: &mut [u8]) -> Went
+// One turn of a run: the record at its place is done, if there is one and its answer has room; else nothing is, and the refusal is why.
+#[tactic(auto, using(crate::proofs::Turns::turn_full))]
+fn onward(
+    w: Walk,
+    log: &[u8],
+    cells: &mut [u8],
+    bits: &mut [u8],
+    out: &mut [u8],
+) -> Result<Walk, Refusal>
     requires { (Fits (card w.stage cells.old bits.old)) × (Stands w log.now out.old) }
     ensures { turned result (card (stage_then w result) cells.new bits.new) out.new
         ≡ turn_of w (next_of log.now w.at) (card w.stage cells.old bits.old) out.old }
 {
-    match cardlog::next_at(log, w.at) {
-        Next::Stop(why) => Went::Off(refusal_of(why)),
-        Next::Found(e, place) => {
-            let room = room_of(e);
-            if out.len() - w.written < room {
-                return Went::Off(Refusal::NoRoom);
-            }
-            let records = w.records + 1;
-            let written = w.written + room;
-            let s = w.stage;
-            let t = turn(s, e, w.written, cells, bits, out);
-            Went::On(Walk {
-                stage: t,
-                at: place,
-                records: records,
-                written: written,
-            })
-        }
+    let (e, at) = cardlog::next_at(log, w.at)?;
+    let room = room_of(e);
+    if out.len() - w.written < room {
+        return Err(Refusal::NoRoom);
     }
+    let stage = turn(w.stage, e, w.written, cells, bits, out);
+    Ok(Walk {
+        stage,
+        at,
+        records: w.records + 1,
+        written: w.written + room,
+    })
 }
 
 // The records of a log, one after another: the stage goes in and comes back with each.
+// No `for`: where the next record stands is known only when this one has been read.
 fn go(stage: Stage, log: &[u8], cells: &mut [u8], bits: &mut [u8], out: &mut [u8]) -> Answer
     requires { Fits (card stage cells.old bits.old) }
     ensures { seen result cells.new bits.new out.new
@@ -174,17 +172,14 @@ fn go(stage: Stage, log: &[u8], cells: &mut [u8], bits: &mut [u8], out: &mut [u8
     let mut w = Walk::start(stage);
     loop {
         match onward(w, log, cells, bits, out) {
-            Went::On(next) => {
-                w = next;
-            }
-            Went::Off(r) => {
-                return w.so_far(r);
-            }
+            Ok(next) => w = next,
+            Err(refusal) => return w.so_far(refusal),
         }
     }
 }
 
 // A card log run on a card, from a stage, over lent cells and protect bits: every content of them is answered.
+#[tactic(auto, unfolding(crate::specs::Runs::run_of, crate::specs::Runs::bytes_out, crate::specs::Turns::check_of, card::specs::Card::run, cardlog::specs::Log::written))]
 pub fn run(stage: Stage, log: &[u8], cells: &mut [u8], bits: &mut [u8], out: &mut [u8]) -> Answer
     ensures { seen result cells.new bits.new out.new
         ≡ shown (run_of (length out.old) log.now (card stage cells.old bits.old)) out.old }
@@ -211,6 +206,7 @@ pub fn command(
     ensures { seen result cells.new bits.new out.new
         ≡ shown (run_of (length out.old) (bytes_of (Sent first second third)) (card stage cells.old bits.old)) out.old }
 {
+    // The record's bytes, as the contract has it.
     let log = [0x20, first, second, third];
     run(stage, &log, cells, bits, out)
 }
