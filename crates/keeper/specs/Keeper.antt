@@ -1,13 +1,12 @@
 -- Document 02, item 9: a keeper of the bus with four queues of eight waiting transfers each, a transfer being a tag of one byte.
-use Rattle.std.specs.Prelude.{Bool, true, not, ◌&&◌, List, [], ◌∷◌, ℕ, zero, suc, ◌+◌, ◌-◌, ◌%◌, ◌<◌, ◌≤◌, ltb, leb, eqb, get_or, set, if◌then◌else◌}
+use Rattle.std.specs.Prelude.{Bool, true, not, ◌&&◌, List, [], ◌∷◌, ℕ, zero, suc, ◌+◌, ◌-◌, ◌%◌, ◌<◌, ◌≤◌, ltb, leb, eqb, get_or, set, if◌then◌else◌, ⊤, Option, Some, None, Result, Ok, Err}
 use Rattle.keeper.specs.declared.Queue.{Queue}
 use Rattle.keeper.specs.declared.Keeper.{Keeper}
-use Rattle.keeper.specs.declared.Refused.{Refused}
-use Rattle.keeper.specs.declared.Refused.TheVariants.{Not, BadCore, QueueFull, AllEmpty, BadKeeper}
 use Rattle.keeper.specs.declared.Added.{Added}
 use Rattle.keeper.specs.declared.Granted.{Granted}
-use Rattle.keeper.specs.declared.Turn.{Turn}
-use Rattle.keeper.specs.declared.Turn.TheVariants.{Of, Nobody}
+use Rattle.keeper.specs.declared.Refused.{Refused}
+use Rattle.keeper.specs.declared.Refused.TheVariants.{BadCore, QueueFull, AllEmpty, BadKeeper}
+use Rattle.keeper.specs.declared.Grant.{Grant}
 
 -- ---- the queues
 
@@ -65,11 +64,15 @@ keeper_sound k = ltb k.last 4 && sound_from k 0 4
 
 -- the number of each
 abbrev pub number_of : Refused → ℕ
-number_of Not = 0
 number_of BadCore = 14
 number_of QueueFull = 15
 number_of AllEmpty = 16
 number_of BadKeeper = 20
+
+-- the number of an answer: 0 where nothing is refused
+abbrev pub number_in : {A : Type 0} → Result A Refused → ℕ
+number_in (Ok x) = 0
+number_in (Err r) = number_of r
 
 -- ---- a new keeper
 
@@ -91,17 +94,17 @@ with_queue k core q last = record { queues = set k.queues core q; last = last }
 abbrev pub put_of : Queue → ℕ → Queue
 put_of q tag = queue (set q.tags ((q.head + q.length) % 8) tag) q.head (q.length + 1)
 
--- what comes of an adding
-abbrev pub added : Keeper → Refused → Added
-added k refused = record { keeper = k; refused = refused }
+-- what comes of an adding: the keeper, and whether it was refused
+abbrev pub added : Keeper → Result ⊤ Refused → Added
+added k answer = record { keeper = k; answer = answer }
 
 -- 20 first, then 14, then 15; each leaves the keeper as it was
 unfoldable pub add_of : Keeper → ℕ → ℕ → Added
 add_of k core tag =
-    if not (keeper_sound k) then added k BadKeeper
-    else if leb 4 core then added k BadCore
-    else if eqb (queue_at k core).length 8 then added k QueueFull
-    else added (with_queue k core (put_of (queue_at k core) tag) k.last) Not
+    if not (keeper_sound k) then added k (Err BadKeeper)
+    else if leb 4 core then added k (Err BadCore)
+    else if eqb (queue_at k core).length 8 then added k (Err QueueFull)
+    else added (with_queue k core (put_of (queue_at k core) tag) k.last) (Ok tt)
 
 -- ---- a grant takes the front of the first non-empty queue from the core after the last granted, round from 3 to 0
 
@@ -114,27 +117,31 @@ abbrev pub rest_of : Queue → Queue
 rest_of q = queue q.tags ((q.head + 1) % 8) (q.length - 1)
 
 -- the first of n cores whose queue is not empty, from a core on, round from 3 to 0
-unfoldable pub first_from : Keeper → ℕ → ℕ → Turn
-first_from k core zero = Nobody
-first_from k core (suc n) = if ltb 0 (queue_at k core).length then Of core else first_from k ((core + 1) % 4) n
+unfoldable pub first_from : Keeper → ℕ → ℕ → Option ℕ
+first_from k core zero = None
+first_from k core (suc n) = if ltb 0 (queue_at k core).length then Some core else first_from k ((core + 1) % 4) n
 
 -- of all four, from the core after the last granted
-abbrev pub whose_turn : Keeper → Turn
+abbrev pub whose_turn : Keeper → Option ℕ
 whose_turn k = first_from k ((k.last + 1) % 4) 4
 
--- what comes of a grant
-abbrev pub granted : Keeper → Refused → ℕ → ℕ → Granted
-granted k refused core tag = record { keeper = k; refused = refused; core = core; tag = tag }
+-- what comes of a grant: the keeper, and what is granted or why nothing is
+abbrev pub granted : Keeper → Result Grant Refused → Granted
+granted k answer = record { keeper = k; answer = answer }
+
+-- a core and a tag
+abbrev pub grant : ℕ → ℕ → Grant
+grant core tag = record { core = core; tag = tag }
 
 -- the front of a core's queue is taken, and the core is the last granted
 abbrev pub taken_from : Keeper → ℕ → Granted
-taken_from k core = granted (with_queue k core (rest_of (queue_at k core)) core) Not core (front_of (queue_at k core))
+taken_from k core = granted (with_queue k core (rest_of (queue_at k core)) core) (Ok (grant core (front_of (queue_at k core))))
 
 -- by whose turn it is
-abbrev pub served : Keeper → Turn → Granted
-served k (Of core) = taken_from k core
-served k Nobody = granted k AllEmpty 0 0
+abbrev pub served : Keeper → Option ℕ → Granted
+served k (Some core) = taken_from k core
+served k None = granted k (Err AllEmpty)
 
 -- 20 first, then 16; each leaves the keeper as it was
 unfoldable pub grant_of : Keeper → Granted
-grant_of k = if not (keeper_sound k) then granted k BadKeeper 0 0 else served k (whose_turn k)
+grant_of k = if not (keeper_sound k) then granted k (Err BadKeeper) else served k (whose_turn k)

@@ -1,9 +1,9 @@
 -- What is promised of one adding and of one grant. Of sequences of them: the crate `rounds`.
-use Rattle.std.specs.Prelude.{[], ◌∷◌, ◌++◌, ◌↔◌, ◌≡◌, ℕ, ◌+◌, ◌%◌, ◌<◌, ◌≤◌, T, length}
+use Rattle.std.specs.Prelude.{[], ◌∷◌, ◌++◌, ◌↔◌, ◌≡◌, ℕ, ◌+◌, ◌%◌, ◌<◌, ◌≤◌, T, length, Ok, Err}
 use Rattle.keeper.specs.declared.Keeper.{Keeper}
-use Rattle.keeper.specs.declared.Granted.{Granted}
-use Rattle.keeper.specs.declared.Refused.TheVariants.{Not}
-use Rattle.keeper.specs.Keeper.{queue_at, waiting, SoundKeeper, keeper_sound, number_of, new_keeper, add_of, granted, grant_of}
+use Rattle.keeper.specs.declared.Grant.{Grant}
+use Rattle.keeper.specs.declared.Refused.{Refused}
+use Rattle.keeper.specs.Keeper.{queue_at, waiting, SoundKeeper, keeper_sound, number_in, new_keeper, add_of, grant_of}
 
 -- the test of soundness says exactly what the request lists
 abbrev pub SoundExactly : Type 0
@@ -20,7 +20,7 @@ pub data AddLine (k : Keeper) (core : ℕ) : ℕ → Type 0 where
 
 -- it gets n if and only if line n holds
 abbrev pub AddExactly : Type 0
-AddExactly = (k : Keeper) (core tag n : ℕ) → number_of (add_of k core tag).refused ≡ n ↔ AddLine k core n
+AddExactly = (k : Keeper) (core tag n : ℕ) → number_in (add_of k core tag).answer ≡ n ↔ AddLine k core n
 
 -- when a grant gets number n
 pub data GrantLine (k : Keeper) : ℕ → Type 0 where
@@ -30,14 +30,12 @@ pub data GrantLine (k : Keeper) : ℕ → Type 0 where
 
 -- it gets n if and only if line n holds
 abbrev pub GrantExactly : Type 0
-GrantExactly = (k : Keeper) (n : ℕ) → number_of (grant_of k).refused ≡ n ↔ GrantLine k n
+GrantExactly = (k : Keeper) (n : ℕ) → number_in (grant_of k).answer ≡ n ↔ GrantLine k n
 
--- a refusal leaves the keeper as it was, every field; a refused grant names core 0 and tag 0
+-- a refusal leaves the keeper as it was, every field
 abbrev pub RefusedLeaves : Type 0
 RefusedLeaves =
-    (k : Keeper) →
-    ((core tag : ℕ) → ¬ ((add_of k core tag).refused ≡ Not) → (add_of k core tag).keeper ≡ k)
-    × (¬ ((grant_of k).refused ≡ Not) → grant_of k ≡ granted k (grant_of k).refused 0 0)
+    (k : Keeper) (r : Refused) → ((core tag : ℕ) → (add_of k core tag).answer ≡ Err r → (add_of k core tag).keeper ≡ k) × ((grant_of k).answer ≡ Err r → (grant_of k).keeper ≡ k)
 
 -- ---- what an adding and a grant do
 
@@ -63,23 +61,23 @@ pub record AtBack (k : Keeper) (core tag : ℕ) (j : Keeper) : Type 0 where
 
 -- so it is after each adding that is not refused
 abbrev pub AddsAtBack : Type 0
-AddsAtBack = (k : Keeper) → Formed k → (core tag : ℕ) → (add_of k core tag).refused ≡ Not → AtBack k core tag (add_of k core tag).keeper
+AddsAtBack = (k : Keeper) → Formed k → (core tag : ℕ) → (add_of k core tag).answer ≡ Ok tt → AtBack k core tag (add_of k core tag).keeper
 
--- a grant of k: it goes to the core that is `steps` after the last granted, each core between with nothing waiting; that core's queue has
--- lost its front, nothing else has changed, and the core is the last granted
-pub record InTurn (k : Keeper) (g : Granted) : Type 0 where
+-- a grant g of k, and j comes of it: it goes to the core that is `steps` after the last granted, each core between with nothing waiting;
+-- that core's queue has lost its front, nothing else has changed, and the core is the last granted
+pub record InTurn (k : Keeper) (g : Grant) (j : Keeper) : Type 0 where
   pub steps : ℕ
   pub on : 1 ≤ steps
   pub round : steps ≤ 4
   pub whose : g.core ≡ (k.last + steps) % 4
   pub passed : (s : ℕ) → 1 ≤ s → s < steps → waiting k ((k.last + s) % 4) ≡ []
-  pub front : waiting k g.core ≡ g.tag ∷ waiting g.keeper g.core
-  pub others : (d : ℕ) → ¬ (d ≡ g.core) → queue_at g.keeper d ≡ queue_at k d
-  pub last : g.keeper.last ≡ g.core
+  pub front : waiting k g.core ≡ g.tag ∷ waiting j g.core
+  pub others : (d : ℕ) → ¬ (d ≡ g.core) → queue_at j d ≡ queue_at k d
+  pub last : j.last ≡ g.core
 
 -- so it is after each grant that is not refused
 abbrev pub GrantsInTurn : Type 0
-GrantsInTurn = (k : Keeper) → Formed k → (grant_of k).refused ≡ Not → InTurn k (grant_of k)
+GrantsInTurn = (k : Keeper) → Formed k → (g : Grant) → (grant_of k).answer ≡ Ok g → InTurn k g (grant_of k).keeper
 
 -- nothing waits in a new keeper, and the core after its last granted is core 0
 abbrev pub NewKeeper : Type 0

@@ -6,9 +6,9 @@ ghost use Rattle.std.specs.Prelude.{◌≡◌};
 ghost use Rattle.keeper.specs.Keeper.{new_keeper, add_of, grant_of};
 ghost use Rattle.keeper_face.specs.Face.{face_added, face_granted};
 
-use keeper::Keeper;
+use keeper::{Added, Granted, Keeper};
 
-// What comes of an adding.
+// What comes of an adding; the refusal is 0 where there is none, for C has no Result.
 #[repr(C)]
 #[derive(Clone, Copy)]
 pub struct CAdded {
@@ -16,7 +16,7 @@ pub struct CAdded {
     pub refusal: u8,
 }
 
-// What comes of a grant.
+// What comes of a grant; the refusal is 0 where there is none, else core and tag are 0.
 #[repr(C)]
 #[derive(Clone, Copy)]
 pub struct CGranted {
@@ -37,12 +37,13 @@ pub fn sleet_keeper_new() -> Keeper
 pub fn sleet_keeper_add(keeper: Keeper, core: u8, tag: u8) -> CAdded
     ensures { result ≡ face_added (add_of keeper core tag) }
 {
-    let a = keeper.add(core, tag);
-    let k = a.keeper;
-    let why = a.refused;
+    let Added { keeper, answer } = keeper.add(core, tag);
     CAdded {
-        keeper: k,
-        refusal: keeper::number_of(why),
+        keeper,
+        refusal: match answer {
+            Ok(()) => 0,
+            Err(why) => keeper::number_of(why),
+        },
     }
 }
 
@@ -50,13 +51,19 @@ pub fn sleet_keeper_add(keeper: Keeper, core: u8, tag: u8) -> CAdded
 pub fn sleet_keeper_grant(keeper: Keeper) -> CGranted
     ensures { result ≡ face_granted (grant_of keeper) }
 {
-    let g = keeper.grant();
-    let k = g.keeper;
-    let why = g.refused;
-    CGranted {
-        keeper: k,
-        refusal: keeper::number_of(why),
-        core: g.core,
-        tag: g.tag,
+    let Granted { keeper, answer } = keeper.grant();
+    match answer {
+        Ok(grant) => CGranted {
+            keeper,
+            refusal: 0,
+            core: grant.core,
+            tag: grant.tag,
+        },
+        Err(why) => CGranted {
+            keeper,
+            refusal: keeper::number_of(why),
+            core: 0,
+            tag: 0,
+        },
     }
 }

@@ -1,5 +1,5 @@
 -- A keeper stays good, and each core is granted what was added for it, in its order and once.
-use Rattle.std.specs.Prelude.{if◌then◌else◌}
+use Rattle.std.specs.Prelude.{if◌then◌else◌, ⊤, Result, Ok, Err}
 use mathlib.Core.Bool.{Bool, true, false}
 use mathlib.Core.List.{List, [], ◌∷◌, ◌++◌, append_assoc, append-nil}
 use mathlib.Core.Path.{◌≡◌, refl, sym, ap, ◌∙◌}
@@ -7,12 +7,13 @@ use Prim.Native.Nat.{ℕ}
 use borrow.Author.Tests.{eqb-true, eqb-false}
 use lib.Dec.{eqb}
 use Rattle.keeper.specs.declared.Keeper.{Keeper}
+use Rattle.keeper.specs.declared.Grant.{Grant}
+use Rattle.keeper.specs.declared.Refused.{Refused}
 use Rattle.keeper.specs.Keeper.{waiting, waiting_in, add_of, grant_of}
 use Rattle.keeper.specs.Promises.{Good, AtBack, InTurn}
 use Rattle.keeper.proofs.Laws.{refused_leaves, kept_sound, adds_at_back, grants_in_turn}
 use Rattle.rounds.specs.Rounds.{adding, granting, called_all, grants, to_core, granted_to, for_core, added_for}
 use Rattle.rounds.specs.Promises.{StaysGood, InOrder}
-use Rattle.rounds.proofs.Answers.{Answer, given, denied, answer}
 
 pub stays_good : StaysGood
 unfolding called_all
@@ -24,35 +25,35 @@ stays_good k g (granting ∷ xs) = stays_good (grant_of k).keeper (kept_sound.1 
 
 -- what an adding does to what waits for a core
 pub add_waits : (k : Keeper) → Good k → (d tag core : ℕ) → waiting (add_of k d tag).keeper core ≡ waiting k core ++ for_core core d tag (add_of k d tag)
-add_waits k g d tag core = by (answer (add_of k d tag).refused)
+add_waits k g d tag core = by (add_of k d tag).answer refl
   where
     placed : (b : Bool) → eqb d core ≡ b → AtBack k d tag (add_of k d tag).keeper → waiting (add_of k d tag).keeper core ≡ waiting k core ++ (if b then tag ∷ [] else [])
     placed true e a = rw (← eqb-true d core e) a.back
     placed false e a = ap waiting_in (a.others core (λ q. eqb-false d core e (sym q))) ∙ sym (append-nil (waiting k core))
 
-    by : Answer (add_of k d tag).refused → waiting (add_of k d tag).keeper core ≡ waiting k core ++ for_core core d tag (add_of k d tag)
-    by (given r t) = rw t (placed (eqb d core) refl (adds_at_back k g.formed d tag r))
-    by (denied r t) = rw (t, (refused_leaves k).0 d tag r) (sym (append-nil (waiting k core)))
+    by : (a : Result ⊤ Refused) → (add_of k d tag).answer ≡ a → waiting (add_of k d tag).keeper core ≡ waiting k core ++ for_core core d tag (add_of k d tag)
+    by (Ok u) e = rw e (placed (eqb d core) refl (adds_at_back k g.formed d tag e))
+    by (Err r) e = rw (e, (refused_leaves k r).0 d tag e) (sym (append-nil (waiting k core)))
 
 -- an adding leaves the core granted last
 pub add_last : (k : Keeper) → Good k → (core tag : ℕ) → (add_of k core tag).keeper.last ≡ k.last
-add_last k g core tag = by (answer (add_of k core tag).refused)
+add_last k g core tag = by (add_of k core tag).answer refl
   where
-    by : Answer (add_of k core tag).refused → (add_of k core tag).keeper.last ≡ k.last
-    by (given r t) = (adds_at_back k g.formed core tag r).last
-    by (denied r t) = rw ((refused_leaves k).0 core tag r)
+    by : (a : Result ⊤ Refused) → (add_of k core tag).answer ≡ a → (add_of k core tag).keeper.last ≡ k.last
+    by (Ok u) e = (adds_at_back k g.formed core tag e).last
+    by (Err r) e = rw ((refused_leaves k r).0 core tag e)
 
 -- what a grant does to what waits for a core
-pub grant_waits : (k : Keeper) → Good k → (core : ℕ) → to_core core (grant_of k) ++ waiting (grant_of k).keeper core ≡ waiting k core
-grant_waits k g core = by (answer (grant_of k).refused)
+pub grant_waits : (k : Keeper) → Good k → (core : ℕ) → to_core core (grant_of k).answer ++ waiting (grant_of k).keeper core ≡ waiting k core
+grant_waits k g core = by (grant_of k).answer refl
   where
-    taken : (b : Bool) → eqb (grant_of k).core core ≡ b → InTurn k (grant_of k) → (if b then (grant_of k).tag ∷ [] else []) ++ waiting (grant_of k).keeper core ≡ waiting k core
-    taken true e i = rw (← eqb-true (grant_of k).core core e) (sym i.front)
-    taken false e i = ap waiting_in (i.others core (λ q. eqb-false (grant_of k).core core e (sym q)))
+    taken : (x : Grant) (b : Bool) → eqb x.core core ≡ b → InTurn k x (grant_of k).keeper → (if b then x.tag ∷ [] else []) ++ waiting (grant_of k).keeper core ≡ waiting k core
+    taken x true e i = rw (← eqb-true x.core core e) (sym i.front)
+    taken x false e i = ap waiting_in (i.others core (λ q. eqb-false x.core core e (sym q)))
 
-    by : Answer (grant_of k).refused → to_core core (grant_of k) ++ waiting (grant_of k).keeper core ≡ waiting k core
-    by (given r t) = rw t (taken (eqb (grant_of k).core core) refl (grants_in_turn k g.formed r))
-    by (denied r t) = rw t (rw ((refused_leaves k).1 r))
+    by : (a : Result Grant Refused) → (grant_of k).answer ≡ a → to_core core (grant_of k).answer ++ waiting (grant_of k).keeper core ≡ waiting k core
+    by (Ok x) e = rw e (taken x (eqb x.core core) refl (grants_in_turn k g.formed x e))
+    by (Err r) e = rw (e, (refused_leaves k r).1 e)
 
 -- ---- any calls
 
@@ -64,7 +65,7 @@ in_order k g (adding d tag ∷ xs) core =
     ∙ ap (λ (l : List ℕ). l ++ added_for core (add_of k d tag).keeper xs) (add_waits k g d tag core)
     ∙ append_assoc (waiting k core) (for_core core d tag (add_of k d tag)) (added_for core (add_of k d tag).keeper xs)
 in_order k g (granting ∷ xs) core =
-    append_assoc (to_core core (grant_of k)) (granted_to core (grants (grant_of k).keeper xs)) (waiting (called_all (grant_of k).keeper xs) core)
-    ∙ ap (λ (l : List ℕ). to_core core (grant_of k) ++ l) (in_order (grant_of k).keeper (kept_sound.1 k g).1 xs core)
-    ∙ sym (append_assoc (to_core core (grant_of k)) (waiting (grant_of k).keeper core) (added_for core (grant_of k).keeper xs))
+    append_assoc (to_core core (grant_of k).answer) (granted_to core (grants (grant_of k).keeper xs)) (waiting (called_all (grant_of k).keeper xs) core)
+    ∙ ap (λ (l : List ℕ). to_core core (grant_of k).answer ++ l) (in_order (grant_of k).keeper (kept_sound.1 k g).1 xs core)
+    ∙ sym (append_assoc (to_core core (grant_of k).answer) (waiting (grant_of k).keeper core) (added_for core (grant_of k).keeper xs))
     ∙ ap (λ (l : List ℕ). l ++ added_for core (grant_of k).keeper xs) (grant_waits k g core)

@@ -1,16 +1,18 @@
 -- Nothing but what waits, and the core granted last, is seen: keepers alike in them answer alike and stay alike.
+use Rattle.std.specs.Prelude.{⊤, Result, Ok, Err}
 use mathlib.Core.List.{List, [], ◌∷◌, ◌++◌}
-use mathlib.Core.Path.{◌≡◌, refl, sym, ◌∙◌}
+use mathlib.Core.Path.{◌≡◌, refl, sym, ap, ◌∙◌}
 use Prim.Native.Nat.{ℕ, ◌+◌, ◌%◌, ◌<◌}
 use native.Mathlib.Omega.{arith}
 use Rattle.keeper.specs.declared.Keeper.{Keeper}
-use Rattle.keeper.specs.declared.Granted.{Granted}
-use Rattle.keeper.specs.Keeper.{waiting, SoundKeeper, number_of, add_of, grant_of}
+use Rattle.keeper.specs.declared.Grant.{Grant}
+use Rattle.keeper.specs.declared.Refused.{Refused}
+use Rattle.keeper.specs.Keeper.{waiting, SoundKeeper, number_in, add_of, grant, grant_of}
 use Rattle.keeper.specs.Promises.{AddLine, GrantLine, Good, InTurn}
 use Rattle.keeper.proofs.Laws.{add_exactly, grant_exactly, refused_leaves, kept_sound, grants_in_turn}
 use Rattle.rounds.specs.Rounds.{adding, granting, called_all, answered_all, to_core}
 use Rattle.rounds.specs.Promises.{Alike, Unseen}
-use Rattle.rounds.proofs.Answers.{Answer, given, denied, answer, same_refusal}
+use Rattle.rounds.proofs.Answers.{given, denied}
 use Rattle.rounds.proofs.Order.{add_waits, add_last, grant_waits}
 
 turned : (k j : Keeper) → Alike k j → Alike j k
@@ -37,70 +39,78 @@ grant_line k j s z a n (GrantLine.one_waits _ core h f) = GrantLine.one_waits z 
 -- ---- the grants
 
 -- a core that has its turn in one is not passed in the other
-in_turn : (k j : Keeper) → Alike k j → (x : InTurn k (grant_of k)) (y : InTurn j (grant_of j)) → ¬ (x.steps < y.steps)
-in_turn k j a x y h =
-    let e : waiting k (grant_of k).core ≡ [] = rw x.whose (a.waits ((k.last + x.steps) % 4) (omega arith) ∙ rw a.last (y.passed x.steps x.on h)) in
-    let f : waiting k (grant_of k).core ≡ (grant_of k).tag ∷ waiting (grant_of k).keeper (grant_of k).core = x.front in
-    let z : ◌≡◌ {A = ℕ} 0 1 = cc in
-    omega arith
+in_turn : (k j : Keeper) → Alike k j → (g h : Grant) (k' j' : Keeper) → (x : InTurn k g k') (y : InTurn j h j') → ¬ (x.steps < y.steps)
+in_turn k j a g h k' j' x y l =
+    let e : waiting k g.core ≡ [] = rw x.whose (a.waits ((k.last + x.steps) % 4) (omega arith) ∙ rw a.last (y.passed x.steps x.on l)) in
+    let f : waiting k g.core ≡ g.tag ∷ waiting k' g.core = x.front in
+    let z : ⊥ = cc in
+    absurd z
 
-same_core : (k j : Keeper) → Alike k j → (x : InTurn k (grant_of k)) (y : InTurn j (grant_of j)) → (grant_of k).core ≡ (grant_of j).core
-same_core k j a x y =
-    let s : x.steps ≡ y.steps = omega (arith, in_turn k j a x y, in_turn j k (turned k j a) y x) in
+same_core : (k j : Keeper) → Alike k j → (g h : Grant) (k' j' : Keeper) → (x : InTurn k g k') (y : InTurn j h j') → g.core ≡ h.core
+same_core k j a g h k' j' x y =
+    let s : x.steps ≡ y.steps = omega (arith, in_turn k j a g h k' j' x y, in_turn j k (turned k j a) h g j' k' y x) in
     x.whose ∙ rw (a.last, s) (sym y.whose)
 
-same_tag : (k j : Keeper) → Alike k j → (x : InTurn k (grant_of k)) (y : InTurn j (grant_of j)) → (grant_of k).tag ≡ (grant_of j).tag
-same_tag k j a x y =
-    let c : (grant_of k).core ≡ (grant_of j).core = same_core k j a x y in
-    let w : waiting k (grant_of k).core ≡ waiting j (grant_of k).core = a.waits (grant_of k).core (rw x.whose (omega arith)) in
-    let e : waiting k (grant_of k).core ≡ (grant_of k).tag ∷ waiting (grant_of k).keeper (grant_of k).core = x.front in
-    let f : waiting j (grant_of k).core ≡ (grant_of j).tag ∷ waiting (grant_of j).keeper (grant_of k).core = rw c y.front in
+same_tag : (k j : Keeper) → Alike k j → (g h : Grant) (k' j' : Keeper) → (x : InTurn k g k') (y : InTurn j h j') → g.tag ≡ h.tag
+same_tag k j a g h k' j' x y =
+    let c : g.core ≡ h.core = same_core k j a g h k' j' x y in
+    let w : waiting k g.core ≡ waiting j g.core = a.waits g.core (rw x.whose (omega arith)) in
+    let e : waiting k g.core ≡ g.tag ∷ waiting k' g.core = x.front in
+    let f : waiting j g.core ≡ h.tag ∷ waiting j' g.core = rw c y.front in
     cc
 
--- the same grant, and the same core granted last afterwards
-record Same (x y : Granted) : Type 0 where
-  core : x.core ≡ y.core
-  tag : x.tag ≡ y.tag
-  last : x.keeper.last ≡ y.keeper.last
+-- grants with the same core and tag are the same
+same_grant : (x y : Grant) → x.core ≡ y.core → x.tag ≡ y.tag → x ≡ y
+same_grant x y c t = ap (λ (core : ℕ). grant core x.tag) c ∙ ap (grant y.core) t
 
 -- ---- what two such keepers answer
 
 module _ (k j : Keeper) (g : Good k) (z : Good j) (a : Alike k j) where
-  add_refusal : (core tag : ℕ) → (add_of k core tag).refused ≡ (add_of j core tag).refused
-  add_refusal core tag =
-      let n : ℕ = number_of (add_of j core tag).refused in
-      same_refusal (add_of k core tag).refused (add_of j core tag).refused
-      ((add_exactly k core tag n).1 (add_line j k z.sound g.sound (turned k j a) core n ((add_exactly j core tag n).0 refl)))
+  add_same : (core tag : ℕ) → (add_of k core tag).answer ≡ (add_of j core tag).answer
+  add_same core tag = by (add_of j core tag).answer refl
+    where
+      n : (b : Result ⊤ Refused) → (add_of j core tag).answer ≡ b → number_in (add_of k core tag).answer ≡ number_in b
+      n b e = (add_exactly k core tag (number_in b)).1 (add_line j k z.sound g.sound (turned k j a) core (number_in b) ((add_exactly j core tag (number_in b)).0 (ap number_in e)))
 
-  grant_refusal : (grant_of k).refused ≡ (grant_of j).refused
-  grant_refusal =
-      let n : ℕ = number_of (grant_of j).refused in
-      same_refusal (grant_of k).refused (grant_of j).refused ((grant_exactly k n).1 (grant_line j k z.sound g.sound (turned k j a) n ((grant_exactly j n).0 refl)))
+      by : (b : Result ⊤ Refused) → (add_of j core tag).answer ≡ b → (add_of k core tag).answer ≡ b
+      by (Ok u) e = (given (add_of k core tag).answer (n (Ok u) e)).1
+      by (Err r) e = denied (add_of k core tag).answer r (n (Err r) e)
 
   add_alike : (core tag : ℕ) → Alike (add_of k core tag).keeper (add_of j core tag).keeper
   add_alike core tag = record { waits = waits; last = add_last k g core tag ∙ a.last ∙ sym (add_last j z core tag) }
     where
       waits : (d : ℕ) → d < 4 → waiting (add_of k core tag).keeper d ≡ waiting (add_of j core tag).keeper d
-      waits d h = add_waits k g core tag d ∙ rw (add_refusal core tag, a.waits d h) (sym (add_waits j z core tag d))
+      waits d h = add_waits k g core tag d ∙ rw (add_same core tag, a.waits d h) (sym (add_waits j z core tag d))
 
-  grant_same : Same (grant_of k) (grant_of j)
-  grant_same = by (answer (grant_of k).refused)
+  -- the same grant, and the same core granted last afterwards
+  grant_both : ((grant_of k).answer ≡ (grant_of j).answer) × ((grant_of k).keeper.last ≡ (grant_of j).keeper.last)
+  grant_both = by (grant_of j).answer refl
     where
-      by : Answer (grant_of k).refused → Same (grant_of k) (grant_of j)
-      by (given r t) =
-          let x : InTurn k (grant_of k) = grants_in_turn k g.formed r in
-          let y : InTurn j (grant_of j) = grants_in_turn j z.formed (sym grant_refusal ∙ r) in
-          record { core = same_core k j a x y; tag = same_tag k j a x y; last = x.last ∙ same_core k j a x y ∙ sym y.last }
-      by (denied r t) = rw ((refused_leaves k).1 r, (refused_leaves j).1 (rw (← grant_refusal) r)) (record { core = refl; tag = refl; last = a.last })
+      n : (b : Result Grant Refused) → (grant_of j).answer ≡ b → number_in (grant_of k).answer ≡ number_in b
+      n b e = (grant_exactly k (number_in b)).1 (grant_line j k z.sound g.sound (turned k j a) (number_in b) ((grant_exactly j (number_in b)).0 (ap number_in e)))
+
+      both : (x y : Grant) → (grant_of k).answer ≡ Ok x → (grant_of j).answer ≡ Ok y → ((grant_of k).answer ≡ Ok y) × ((grant_of k).keeper.last ≡ (grant_of j).keeper.last)
+      both x y d e =
+          let v : InTurn k x (grant_of k).keeper = grants_in_turn k g.formed x d in
+          let w : InTurn j y (grant_of j).keeper = grants_in_turn j z.formed y e in
+          let c : x.core ≡ y.core = same_core k j a x y (grant_of k).keeper (grant_of j).keeper v w in
+          let t : x.tag ≡ y.tag = same_tag k j a x y (grant_of k).keeper (grant_of j).keeper v w in
+          (d ∙ ap Ok (same_grant x y c t), v.last ∙ c ∙ sym w.last)
+
+      by : (b : Result Grant Refused) → (grant_of j).answer ≡ b → ((grant_of k).answer ≡ b) × ((grant_of k).keeper.last ≡ (grant_of j).keeper.last)
+      by (Ok y) e = let x = given (grant_of k).answer (n (Ok y) e) in both x.0 y x.1 e
+      by (Err r) e =
+          let d : (grant_of k).answer ≡ Err r = denied (grant_of k).answer r (n (Err r) e) in
+          (d, rw ((refused_leaves k r).1 d, (refused_leaves j r).1 e) a.last)
 
   grant_alike : Alike (grant_of k).keeper (grant_of j).keeper
-  grant_alike = record { waits = waits; last = grant_same.last }
+  grant_alike = record { waits = waits; last = grant_both.1 }
     where
-      same : (d : ℕ) → to_core d (grant_of k) ≡ to_core d (grant_of j)
-      same d = rw (grant_refusal, grant_same.core, grant_same.tag)
+      same : (d : ℕ) → to_core d (grant_of k).answer ≡ to_core d (grant_of j).answer
+      same d = ap (to_core d) grant_both.0
 
       waits : (d : ℕ) → d < 4 → waiting (grant_of k).keeper d ≡ waiting (grant_of j).keeper d
-      waits d h = cancel (to_core d (grant_of k)) (waiting (grant_of k).keeper d) (waiting (grant_of j).keeper d)
+      waits d h = cancel (to_core d (grant_of k).answer) (waiting (grant_of k).keeper d) (waiting (grant_of j).keeper d)
           (grant_waits k g d ∙ a.waits d h ∙ rw (same d) (sym (grant_waits j z d)))
 
 -- ---- any calls
@@ -110,7 +120,7 @@ unfolding called_all answered_all
 unseen k j g z a [] = (refl, a)
 unseen k j g z a (adding core tag ∷ xs) =
     let on = unseen (add_of k core tag).keeper (add_of j core tag).keeper ((kept_sound.1 k g).0 core tag) ((kept_sound.1 j z).0 core tag) (add_alike k j g z a core tag) xs in
-    (rw (add_refusal k j g z a core tag, on.0), on.1)
+    (rw (add_same k j g z a core tag, on.0), on.1)
 unseen k j g z a (granting ∷ xs) =
     let on = unseen (grant_of k).keeper (grant_of j).keeper (kept_sound.1 k g).1 (kept_sound.1 j z).1 (grant_alike k j g z a) xs in
-    (rw (grant_refusal k j g z a, (grant_same k j g z a).core, (grant_same k j g z a).tag, on.0), on.1)
+    (rw ((grant_both k j g z a).0, on.0), on.1)

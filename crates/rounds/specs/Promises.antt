@@ -1,9 +1,9 @@
 -- What is promised of a keeper over any calls, by anyone and in any order, refused ones among them.
-use Rattle.std.specs.Prelude.{List, [], ◌∷◌, ◌++◌, ◌≡◌, ℕ, ◌+◌, ◌*◌, ◌<◌, ◌≤◌, T, length}
+use Rattle.std.specs.Prelude.{List, [], ◌∷◌, ◌++◌, ◌≡◌, ℕ, ◌+◌, ◌*◌, ◌<◌, ◌≤◌, T, length, Ok}
 use Rattle.keeper.specs.declared.Keeper.{Keeper}
-use Rattle.keeper.specs.declared.Granted.{Granted}
-use Rattle.keeper.specs.declared.Refused.TheVariants.{Not}
+use Rattle.keeper.specs.declared.Grant.{Grant}
 use Rattle.keeper.specs.Keeper.{waiting, new_keeper, grant_of}
+use Rattle.keeper.specs.declared.Granted.{Granted}
 use Rattle.keeper.specs.Promises.{Good}
 use Rattle.rounds.specs.Rounds.{Call, adding, granting, called_all, answered_all, grants, all_given, granted_to, added_for, only_adding}
 
@@ -26,11 +26,12 @@ pub record Within (n core : ℕ) (gs : List Granted) : Type 0 where
   pub earlier : List Granted
   pub this : Granted
   pub later : List Granted
+  pub grant : Grant
   pub splits : gs ≡ earlier ++ (this ∷ later)
   pub soon : length earlier < n
   pub none_refused : T (all_given earlier)
-  pub given : this.refused ≡ Not
-  pub whose : this.core ≡ core
+  pub given : this.answer ≡ Ok grant
+  pub whose : grant.core ≡ core
 
 -- a core that has a transfer waiting is granted within the next four grants asked, none of which is refused before it
 abbrev pub WithinFour : Type 0
@@ -39,7 +40,7 @@ WithinFour = (k : Keeper) → Good k → (xs : List Call) (core : ℕ) → core 
 -- among the first n of some answers there is the grant of a tag to a core, and by then the core has been granted just what stood before it
 pub record Comes (n core : ℕ) (before : List ℕ) (tag : ℕ) (gs : List Granted) : Type 0 where
   pub within : Within n core gs
-  pub which : within.this.tag ≡ tag
+  pub which : within.grant.tag ≡ tag
   pub behind : granted_to core within.earlier ≡ before
 
 -- a transfer with i before it in its core's queue is granted within the next 4(i + 1) grants asked
@@ -58,7 +59,7 @@ FourNeeded =
 
 abbrev pub FirstFromZero : Type 0
 FirstFromZero =
-    (xs : List Call) → T (only_adding xs) → (grant_of (called_all new_keeper xs)).refused ≡ Not → (d : ℕ) → d < (grant_of (called_all new_keeper xs)).core →
+    (xs : List Call) → T (only_adding xs) → (g : Grant) → (grant_of (called_all new_keeper xs)).answer ≡ Ok g → (d : ℕ) → d < g.core →
     waiting (called_all new_keeper xs) d ≡ []
 
 -- ---- nothing else matters: what stands in a queue's other places, and the place where it begins, are never seen

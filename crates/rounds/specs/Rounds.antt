@@ -1,9 +1,11 @@
 -- Document 02, item 9: a keeper asked again and again, by anyone and in any order.
-use Rattle.std.specs.Prelude.{Bool, true, false, ◌&&◌, List, [], ◌∷◌, ◌++◌, ℕ, eqb, if◌then◌else◌}
+use Rattle.std.specs.Prelude.{Bool, true, false, ◌&&◌, List, [], ◌∷◌, ◌++◌, ℕ, eqb, if◌then◌else◌, ⊤, Result, Ok, Err, is_ok}
 use Rattle.keeper.specs.declared.Keeper.{Keeper}
+use Rattle.keeper.specs.declared.Grant.{Grant}
+use Rattle.keeper.specs.declared.Refused.{Refused}
+use Rattle.keeper.specs.Keeper.{add_of, grant_of}
 use Rattle.keeper.specs.declared.Added.{Added}
 use Rattle.keeper.specs.declared.Granted.{Granted}
-use Rattle.keeper.specs.Keeper.{number_of, add_of, grant_of}
 
 -- one call: a transfer to be added, or a grant asked
 pub data Call : Type 0 where
@@ -20,15 +22,15 @@ unfoldable pub called_all : Keeper → List Call → Keeper
 called_all k [] = k
 called_all k (x ∷ xs) = called_all (called k x) xs
 
--- what a call answers beside the keeper: the number of its refusal, and of a grant the core and the tag
-pub record Answered : Type 0 where
-  pub number : ℕ
-  pub core : ℕ
-  pub tag : ℕ
+-- what a call answers beside the keeper: whether an adding was refused, or what is granted or why nothing is
+pub data Answered : Type 0 where
+  to_adding : Result ⊤ Refused → Answered
+  to_granting : Result Grant Refused → Answered
 
+-- to a call
 abbrev pub answered : Keeper → Call → Answered
-answered k (adding core tag) = record { number = number_of (add_of k core tag).refused; core = 0; tag = 0 }
-answered k granting = record { number = number_of (grant_of k).refused; core = (grant_of k).core; tag = (grant_of k).tag }
+answered k (adding core tag) = to_adding (add_of k core tag).answer
+answered k granting = to_granting (grant_of k).answer
 
 -- what some calls answer, in their order
 unfoldable pub answered_all : Keeper → List Call → List Answered
@@ -43,7 +45,7 @@ grants k (granting ∷ xs) = grant_of k ∷ grants (grant_of k).keeper xs
 
 -- an answer that is not refused
 abbrev pub grant_given : Granted → Bool
-grant_given g = eqb (number_of g.refused) 0
+grant_given g = is_ok g.answer
 
 -- none of some answers is refused
 unfoldable pub all_given : List Granted → Bool
@@ -51,17 +53,18 @@ all_given [] = true
 all_given (g ∷ gs) = grant_given g && all_given gs
 
 -- what an answer grants to a core
-abbrev pub to_core : ℕ → Granted → List ℕ
-to_core core g = if grant_given g && eqb g.core core then g.tag ∷ [] else []
+abbrev pub to_core : ℕ → Result Grant Refused → List ℕ
+to_core core (Ok g) = if eqb g.core core then g.tag ∷ [] else []
+to_core core (Err r) = []
 
 -- what some answers grant to a core, in their order
 unfoldable pub granted_to : ℕ → List Granted → List ℕ
 granted_to core [] = []
-granted_to core (g ∷ gs) = to_core core g ++ granted_to core gs
+granted_to core (g ∷ gs) = to_core core g.answer ++ granted_to core gs
 
 -- what the adding of a tag for core d adds for a core
 abbrev pub for_core : ℕ → ℕ → ℕ → Added → List ℕ
-for_core core d tag a = if eqb (number_of a.refused) 0 && eqb d core then tag ∷ [] else []
+for_core core d tag a = if is_ok a.answer && eqb d core then tag ∷ [] else []
 
 -- what some calls add for a core and is not refused, in its order
 unfoldable pub added_for : ℕ → Keeper → List Call → List ℕ

@@ -1,14 +1,20 @@
--- From each core on the queues are as sound as from core 0 on. The measure is the cores left.
-use mathlib.Core.Path.{◌≡◌, sym, ◌∙◌}
-use Prim.Native.Nat.{◌+◌, ◌-◌}
-use native.Mathlib.Omega.{arith}
-use borrow.Author.Tests.{lt-ltb, le-ltb, not-true, not-false}
-use Rattle.keeper.specs.Keeper.{keeper_sound}
-use Rattle.keeper.proofs.Searches.{sound_bad, sound_on, sound_end}
+-- The chain says whether all queues are sound.
+use Rattle.std.proofs.Common.{◌≡◌, ◌&&◌, ltb, rules, arith, refl, sym, ◌∙◌}
+use borrow.Author.Tests.{tests}
+use Rattle.std.proofs.lemmas.Iterator.{YieldsList-from_slice}
+use Rattle.std.proofs.lemmas.Iterator.Search.{all_from_yields_List}
+use Rattle.keeper.specs.Keeper.{queue_sound, keeper_sound}
+use Rattle.keeper.proofs.Searches.{sound_by}
 use Rattle.keeper.proofs.Keeper.sound.Goals as goal
 
-pub loop-c-preserved : goal.loop-c-preserved
-loop-c-preserved c =
-    let l = c.loop-c in
-    let e : 4 - (l.c + 1) ≡ 4 - l.c - 1 = omega arith in
-    (omega arith, rw e (sound_on c.args.self l.c (4 - l.c) (omega arith) (rw (← c.queue.ensures) (sym c.sound.ensures ∙ not-false c.sound.result c.if-not-sound.false-raw)) ∙ l.invariant.1))
+pub returns-then-all : goal.returns-then-all
+returns-then-all c =
+    let k = c.args.self in
+    let e : keeper_sound k ≡ (c.all.result && ltb k.last 4) = sound_by k c.all.result (omega arith) (all_from_yields_List queue_sound _ _ c.all.result c.all.ensures.ran (YieldsList-from_slice k.queues cc) (λ x b q k. search (rules, tests))) in
+    sym (e ∙ rw c.if-all.true refl)
+
+pub returns-else-all : goal.returns-else-all
+returns-else-all c =
+    let k = c.args.self in
+    let e : keeper_sound k ≡ (c.all.result && ltb k.last 4) = sound_by k c.all.result (omega arith) (all_from_yields_List queue_sound _ _ c.all.result c.all.ensures.ran (YieldsList-from_slice k.queues cc) (λ x b q k. search (rules, tests))) in
+    sym (e ∙ rw c.if-all.false refl)

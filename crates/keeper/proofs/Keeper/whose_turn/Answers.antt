@@ -1,18 +1,18 @@
--- From each core on the first to be found is the same. The measure is the cores left.
-use mathlib.Core.Path.{sym, ◌∙◌}
-use native.Mathlib.Omega.{arith}
-use Rattle.keeper.proofs.Searches.{first_here, first_on, first_end}
+-- The first of the four in turn whose queue is not empty is the one that the definition looks for.
+use Rattle.std.proofs.Common.{◌≡◌, ◌+◌, ◌%◌, ltb, rules, map, refl}
+use borrow.Author.Tests.{tests}
+use Rattle.std.specs.List.{find, range_with_len}
+use Rattle.std.specs.Option.{option_map}
+use Rattle.std.proofs.lemmas.Iterator.{YieldsList-from_range, YieldsList-from_map}
+use Rattle.std.proofs.lemmas.Iterator.Search.{find_from_yields_List}
+use Rattle.keeper.specs.Keeper.{queue_at}
+use Rattle.keeper.proofs.Searches.{first_found}
 use Rattle.keeper.proofs.Keeper.whose_turn.Goals as goal
 
-pub returns-then-queue-gt0 : goal.returns-then-queue-gt0
-returns-then-queue-gt0 c =
-    let l = c.loop-left in
-    sym (first_here c.args.self l.core l.left c.loop-left-test.true (rw (← c.queue.ensures) c.if-queue-gt0.true)) ∙ l.invariant.1
-
-pub loop-left-preserved : goal.loop-left-preserved
-loop-left-preserved c =
-    let l = c.loop-left in
-    (omega arith, first_on c.args.self l.core l.left c.loop-left-test.true (rw (← c.queue.ensures) c.if-queue-gt0.false) ∙ l.invariant.1)
-
 pub returns : goal.returns
-returns c = sym (first_end c.args.self c.loop-left.core c.loop-left.left c.loop-left-test.false) ∙ c.loop-left.invariant.1
+returns c =
+    let k = c.args.self in
+    let f : option_map (λ x. x) c.find.result ≡ find (λ d. ltb 0 (queue_at k d).length) (map (λ s. (k.last + 1 + s) % 4) (range_with_len 0 4))
+    = find_from_yields_List (λ d. ltb 0 (queue_at k d).length) _ _ c.find.result c.find.ensures.ran
+    (YieldsList-from_map _ (λ s. (k.last + 1 + s) % 4) (YieldsList-from_range 0 4 4 (cc) refl) refl (λ x r q k. search rules)) (λ x b q k. search (rules, tests)) in
+    first_found k c.find.result f
