@@ -19,9 +19,10 @@ use Rattle.sheet.specs.Page.{page_of, make_of}
 use Rattle.sheet.proofs.Exact.{so_true}
 use Rattle.sheet.proofs.Pages.{page_length}
 use Rattle.sheet.proofs.Places.{pages_right}
-use Rattle.copies.specs.Copies.{copy_at, Holds, sizes_in, sizes_of, read_of}
+use Rattle.copies.specs.Copies.{copy_at, Holds, sizes_in, sizes_of, found, read_of}
+use Rattle.copies.specs.declared.Sizes.{Sizes}
 use Rattle.copies.specs.Promises.{MadeReads}
-use Rattle.copies.specs.declared.Found.TheVariants.{At}
+use Rattle.std.proofs.Common.{Ok}
 use Rattle.copies.proofs.Reader.{first-answered}
 
 -- a number that fits its bytes is read from them
@@ -95,5 +96,5 @@ made_reads g s l long k kk none =
     let laid-there : copy_at k m ≡ page_of g = copy_laid l (page_of g) rest k (omega arith) (page_length g) in
     ap (λ (x : List ℕ). read_of (take (256 * k) l ++ x)) (made_is g s (drop (256 * k) l) (rw length-drop (omega arith)))
     ∙ first-answered m k whole kk (subst Holds (sym laid-there) (page_holds g)) (λ j h x. none j h (subst Holds (copy_kept l (page_of g) rest k (omega arith) j h) x))
-    ∙ ap (λ (p : List ℕ). At k (sizes_in p)) laid-there
-    ∙ ap (At k) (own_numbers g s)
+    ∙ ap (λ (p : List ℕ). Ok (found k (sizes_in p))) laid-there
+    ∙ ap (λ (z : Sizes). Ok (found k z)) (own_numbers g s)

@@ -7,8 +7,9 @@ use native.Mathlib.Omega.{arith}
 use lib.Dec.{T, eqb, ltb, eqb→eq}
 use lib.ListN.{length, take, get_or, get_or-eq_default}
 use lib.Seq.{get_or-take}
-use borrow.Author.Tests.{ltb-true, ltb-false, eq-eqb}
+use borrow.Author.Tests.{ltb-true, ltb-false, eq-eqb, eqb-true, eqb-false, ne_eqb}
 use Rattle.part.proofs.Choice.{true_T, and_l, and_r, and_in}
+use Rattle.std.specs.List.{starts_with}
 use Rattle.sheet.specs.Numbers.{stretch}
 use Rattle.copies.specs.Copies.{signed, checked}
 use Rattle.copies.specs.Promises.{HoldsExactly}
@@ -47,6 +48,29 @@ module _ (p : List ℕ) where
   from_signature e =
       let at : (i : ℕ) → i < 4 → get_or p i 0 ≡ get_or (0x4F ∷ 0x4E ∷ 0x46 ∷ 0x49 ∷ []) i 0 = λ i h. sym (get_or-take 4 p i 0 h) ∙ ap (λ (l : List ℕ). get_or l i 0) e in
       rw (at 0 (omega arith), at 1 (omega arith), at 2 (omega arith), at 3 (omega arith)) tt
+
+-- how the code asks for the signature
+and_four : (a b c d : Bool) → a && (b && (c && (d && true))) ≡ a && b && c && d
+and_four false b c d = refl
+and_four true false c d = refl
+and_four true true false d = refl
+and_four true true true false = refl
+and_four true true true true = refl
+
+eqb_swap : (a b : ℕ) → eqb a b ≡ eqb b a
+eqb_swap a b = go (eqb a b) refl
+  where
+    go : (t : Bool) → eqb a b ≡ t → t ≡ eqb b a
+    go true e = sym (eq-eqb b a (sym (eqb-true a b e)))
+    go false e = sym (ne_eqb b a (λ z. eqb-false a b e (sym z)))
+
+pub signed_start : (p : List ℕ) → 3 < length p → starts_with eqb p (0x4F ∷ 0x4E ∷ 0x46 ∷ 0x49 ∷ []) ≡ signed p
+unfolding signed
+signed_start [] h = absurd (omega arith)
+signed_start (a ∷ []) h = absurd (omega arith)
+signed_start (a ∷ b ∷ []) h = absurd (omega arith)
+signed_start (a ∷ b ∷ c ∷ []) h = absurd (omega arith)
+signed_start (a ∷ b ∷ c ∷ d ∷ l) h = rw (eqb_swap 0x4F a, eqb_swap 0x4E b, eqb_swap 0x46 c, eqb_swap 0x49 d) (and_four (eqb a 0x4F) (eqb b 0x4E) (eqb c 0x46) (eqb d 0x49))
 
 pub holds_exactly : HoldsExactly
 unfolding checked

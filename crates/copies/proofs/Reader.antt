@@ -1,26 +1,45 @@
 -- The reader's refusals, exactly, and the copy that it answers.
 use mathlib.Core.Bool.{Bool, true, false}
 use mathlib.Core.List.{List}
-use mathlib.Core.Path.{◌≡◌, refl, sym, subst, ◌∙◌}
+use mathlib.Core.Path.{◌≡◌, refl, sym, ap, subst, ◌∙◌}
 use Prim.Native.Nat.{ℕ, zero, suc, ◌≤◌, ◌<◌}
 use native.Mathlib.Omega.{arith}
 use lib.Dec.{ltb}
 use lib.ListN.{length}
-use borrow.Author.Tests.{ltb-true, ltb-false}
+use borrow.Author.Tests.{ltb-true, ltb-false, le-ltb}
 use Rattle.part.proofs.Choice.{cond_keep}
 use Rattle.sheet.proofs.Exact.{true_so, false_not}
-use Rattle.copies.specs.Copies.{copy_at, Holds, holds, sizes_in, read_of, figures}
+use Rattle.copies.specs.Copies.{copy_at, Holds, holds, sizes_in, found, read_of, figures}
 use Rattle.copies.specs.Promises.{ReadLine, too_short, none_holds, one_holds, ReaderExactly, First, FirstHolds}
 use Rattle.copies.specs.declared.Found.{Found}
-use Rattle.copies.specs.declared.Found.TheVariants.{At, NoCopy, TooShort}
+use Rattle.copies.specs.declared.ReadError.{ReadError}
+use Rattle.copies.specs.declared.ReadError.TheVariants.{NoCopy, TooShort}
+use Rattle.std.proofs.Common.{Result, Ok, Err}
 use Rattle.copies.specs.declared.Sizes.{Sizes}
 use Rattle.copies.proofs.Holding.{holds_exactly}
 
+-- ---- how the code finds the copy
+
+-- copy k holds and none before it
+pub read_found :
+    (l : List ℕ) (k : ℕ) → 768 ≤ length l → k < 3 → holds (copy_at k l) ≡ true → ((j : ℕ) → j < k → holds (copy_at j l) ≡ false) →
+    Ok (found k (sizes_in (copy_at k l))) ≡ read_of l
+unfolding read_of
+read_found l zero h kk t u = rw (le-ltb (length l) 768 h, t)
+read_found l (suc zero) h kk t u = rw (le-ltb (length l) 768 h, u 0 (omega arith), t)
+read_found l (suc (suc zero)) h kk t u = rw (le-ltb (length l) 768 h, u 0 (omega arith), u 1 (omega arith), t)
+read_found l (suc (suc (suc k))) h kk t u = absurd (omega arith)
+
+-- none holds
+pub read_none : (l : List ℕ) → 768 ≤ length l → ((j : ℕ) → j < 3 → holds (copy_at j l) ≡ false) → Err NoCopy ≡ read_of l
+unfolding read_of
+read_none l h u = rw (le-ltb (length l) 768 h, u 0 (omega arith), u 1 (omega arith), u 2 (omega arith))
+
 -- the three ways that a reading can go
-data Reads (l : List ℕ) : Found → Type 0 where
-  short : length l < 768 → Reads l TooShort
-  none : 768 ≤ length l → ((k : ℕ) → k < 3 → ¬ Holds (copy_at k l)) → Reads l NoCopy
-  first : 768 ≤ length l → (k : ℕ) → k < 3 → Holds (copy_at k l) → ((j : ℕ) → j < k → ¬ Holds (copy_at j l)) → Reads l (At k (sizes_in (copy_at k l)))
+data Reads (l : List ℕ) : Result Found ReadError → Type 0 where
+  short : length l < 768 → Reads l (Err TooShort)
+  none : 768 ≤ length l → ((k : ℕ) → k < 3 → ¬ Holds (copy_at k l)) → Reads l (Err NoCopy)
+  first : 768 ≤ length l → (k : ℕ) → k < 3 → Holds (copy_at k l) → ((j : ℕ) → j < k → ¬ Holds (copy_at j l)) → Reads l (Ok (found k (sizes_in (copy_at k l))))
 
 does : (p : List ℕ) → holds p ≡ true → Holds p
 does p = true_so (holds p) (holds_exactly p)
@@ -55,13 +74,13 @@ ways l =
     below_3 n₀ n₁ n₂ (suc (suc zero)) h = n₂
     below_3 n₀ n₁ n₂ (suc (suc (suc j))) h = absurd (omega arith)
 
-line : {l : List ℕ} {f : Found} → Reads l f → ReadLine l (figures f).refusal
+line : {l : List ℕ} {f : Result Found ReadError} → Reads l f → ReadLine l (figures f).refusal
 line (short h) = too_short h
 line (none h u) = none_holds h u
 line (first h k kk p u) = one_holds h k kk p
 
 -- each line gets its number
-gives : {l : List ℕ} {f : Found} {n : ℕ} → Reads l f → ReadLine l n → (figures f).refusal ≡ n
+gives : {l : List ℕ} {f : Result Found ReadError} {n : ℕ} → Reads l f → ReadLine l n → (figures f).refusal ≡ n
 gives (short h) (too_short g) = refl
 gives (short h) (none_holds g v) = absurd (omega arith)
 gives (short h) (one_holds g j jj q) = absurd (omega arith)
@@ -77,12 +96,12 @@ reader_exactly l n = (λ e. subst (ReadLine l) e (line (ways l)), λ x. gives (w
 
 -- ---- the first copy that holds
 
-firsts : {l : List ℕ} {f : Found} (k : ℕ) (s : Sizes) → Reads l f → f ≡ At k s → First l k s
+firsts : {l : List ℕ} {f : Result Found ReadError} (k : ℕ) (s : Sizes) → Reads l f → f ≡ Ok (found k s) → First l k s
 firsts k s (short h) e = absurd (let z : ◌≡◌ {A = ℕ} 0 1 = cc in omega arith)
 firsts k s (none h u) e = absurd (let z : ◌≡◌ {A = ℕ} 0 1 = cc in omega arith)
 firsts {l} k s (first h j jj p u) e =
-    let q : j ≡ k = cc in
-    let r : sizes_in (copy_at j l) ≡ s = cc in
+    let q : j ≡ k = ap (λ (r : Result Found ReadError). (figures r).copy) e in
+    let r : sizes_in (copy_at j l) ≡ s = ap (λ (r : Result Found ReadError). (figures r).sizes) e in
     record {
       one_of_three = rw q at jj;
       holds_it = subst (λ (i : ℕ). Holds (copy_at i l)) q p;
@@ -95,18 +114,18 @@ first_holds l k s e = firsts k s (ways l) e
 
 -- and a copy that is the first to hold is answered
 answered :
-    {l : List ℕ} {f : Found} (k : ℕ) → Reads l f → 768 ≤ length l → k < 3 → Holds (copy_at k l) → ((j : ℕ) → j < k → ¬ Holds (copy_at j l)) →
-    f ≡ At k (sizes_in (copy_at k l))
+    {l : List ℕ} {f : Result Found ReadError} (k : ℕ) → Reads l f → 768 ≤ length l → k < 3 → Holds (copy_at k l) → ((j : ℕ) → j < k → ¬ Holds (copy_at j l)) →
+    f ≡ Ok (found k (sizes_in (copy_at k l)))
 answered k (short h) g kk p u = absurd (omega arith)
 answered k (none h v) g kk p u = absurd (v k kk p)
 answered {l} k (first h j jj q v) g kk p u = go (ltb j k) (ltb k j) refl refl
   where
-    go : (s t : Bool) → ltb j k ≡ s → ltb k j ≡ t → At j (sizes_in (copy_at j l)) ≡ At k (sizes_in (copy_at k l))
+    go : (s t : Bool) → ltb j k ≡ s → ltb k j ≡ t → ◌≡◌ {A = Result Found ReadError} (Ok (found j (sizes_in (copy_at j l)))) (Ok (found k (sizes_in (copy_at k l))))
     go true t e f = absurd (u j (ltb-true j k e) q)
     go false true e f = absurd (v k (ltb-true k j f) p)
     go false false e f = let i : j ≡ k = omega (arith, ltb-false j k e, ltb-false k j f) in rw i refl
 
 pub first-answered :
     (l : List ℕ) (k : ℕ) → 768 ≤ length l → k < 3 → Holds (copy_at k l) → ((j : ℕ) → j < k → ¬ Holds (copy_at j l)) →
-    read_of l ≡ At k (sizes_in (copy_at k l))
+    read_of l ≡ Ok (found k (sizes_in (copy_at k l)))
 first-answered l k = answered k (ways l)

@@ -12,9 +12,9 @@ use Rattle.part.specs.Part.{Sound}
 use Rattle.part.specs.declared.Geometry.{Geometry}
 use Rattle.crc.specs.Promises.{Bytes}
 use Rattle.sheet.specs.Page.{page_of}
-use Rattle.copies.specs.Copies.{copy_at, Holds, sizes_in, sizes_of, read_of, figures}
+use Rattle.copies.specs.Copies.{copy_at, Holds, sizes_in, sizes_of, found, read_of, figures}
 use Rattle.copies.specs.Promises.{OneByteLost}
-use Rattle.copies.specs.declared.Found.TheVariants.{At}
+use Rattle.std.proofs.Common.{Ok}
 use Rattle.copies.proofs.Back.{page_holds, own_numbers}
 use Rattle.copies.proofs.Damage.{damage_seen}
 use Rattle.copies.proofs.Reader.{first-answered}
@@ -29,8 +29,8 @@ module _ (g : Geometry) (sound : Sound g) where
   told_by : (l : List ℕ) (k : ℕ) → 768 ≤ length l → k < 3 → copy_at k l ≡ page_of g → ((j : ℕ) → j < k → ¬ Holds (copy_at j l)) → Tells g l
   unfolding Tells
   told_by l k long kk e none =
-      let found : read_of l ≡ At k (sizes_in (copy_at k l)) = first-answered l k long kk (subst Holds (sym e) (page_holds g)) none in
-      rw found (refl, ap sizes_in e ∙ own_numbers g sound)
+      let read : read_of l ≡ Ok (found k (sizes_in (copy_at k l))) = first-answered l k long kk (subst Holds (sym e) (page_holds g)) none in
+      rw read (refl, ap sizes_in e ∙ own_numbers g sound)
 
   module _ (l : List ℕ) (bs : Bytes l) (long : 768 ≤ length l) (three : (k : ℕ) → k < 3 → copy_at k l ≡ page_of g) (i b : ℕ) (hb : b < 256) where
     still_long : 768 ≤ length (set l i b)

@@ -2,8 +2,8 @@
 use mathlib.Core.Bool.{Bool, true, false}
 use mathlib.Core.List.{List, [], ◌∷◌}
 use mathlib.Core.Path.{◌≡◌, refl, ap}
-use Prim.Native.Nat.{ℕ, zero, suc, ◌+◌, ◌-◌, ◌*◌, ◌%◌, ◌^◌, ◌≤◌, ◌<◌}
-use native.Mathlib.Nat.{mod-eq_of_lt, min-le_left}
+use Prim.Native.Nat.{ℕ, zero, suc, ◌+◌, ◌-◌, ◌*◌, ◌^◌, ◌≤◌, ◌<◌}
+use native.Mathlib.Nat.{min-le_left}
 use native.Mathlib.Omega.{arith}
 use lib.Dec.{ltb}
 use lib.ListN.{length, take, drop, get_or, length-take, get_or-eq_default}
@@ -63,7 +63,7 @@ none_read s =
 pub all_read : {s : List ℕ} {n i : ℕ} → Reading s n i → i ≤ 0 → n ≡ number_in s
 all_read {s} {n} {i} r h = let e : i ≡ 0 = omega arith in rw e at r.so_far
 
--- ---- the two bytes of S
+-- ---- a stretch of bytes
 
 pub stretch_bytes : (p : List ℕ) → Bytes p → (place size : ℕ) → Bytes (stretch place size p)
 stretch_bytes p bs place size i = go (ltb i size) refl
@@ -73,6 +73,3 @@ stretch_bytes p bs place size i = go (ltb i size) refl
     go false e =
         let h : length (take size (drop place p)) ≤ i = omega (arith, length_take_short size (drop place p), ltb-false i size e) in
         rw (get_or-eq_default (take size (drop place p)) 0 {n = i} h) (omega arith)
-
-pub short_whole : (p : List ℕ) → Bytes p → number_in (stretch 84 2 p) % 65536 ≡ number_in (stretch 84 2 p)
-short_whole p bs = mod-eq_of_lt (number_lt 2 (stretch 84 2 p) (length_take_short 2 (drop 84 p)) (stretch_bytes p bs 84 2))

@@ -1,11 +1,10 @@
 -- What is promised of the reader of the three copies.
-use Rattle.std.specs.Prelude.{List, ◌++◌, ◌↔◌, ◌≡◌, ℕ, ◌*◌, ◌≤◌, ◌<◌, T, length, take, drop, get_or, set}
+use Rattle.std.specs.Prelude.{List, ◌++◌, ◌↔◌, ◌≡◌, ℕ, ◌*◌, ◌≤◌, ◌<◌, T, Ok, length, take, drop, get_or, set}
 use Rattle.part.specs.Part.{Sound}
 use Rattle.part.specs.declared.Geometry.{Geometry}
 use Rattle.crc.specs.Promises.{Bytes}
 use Rattle.sheet.specs.Page.{page_of, make_of}
-use Rattle.copies.specs.Copies.{copy_at, Holds, holds, sizes_in, sizes_of, read_of, figures}
-use Rattle.copies.specs.declared.Found.TheVariants.{At}
+use Rattle.copies.specs.Copies.{copy_at, Holds, holds, sizes_in, sizes_of, found, read_of, figures}
 use Rattle.copies.specs.declared.Sizes.{Sizes}
 
 -- the test of a copy says exactly what the request asks of it
@@ -35,14 +34,14 @@ pub record First (l : List ℕ) (k : ℕ) (s : Sizes) : Type 0 where
 
 -- so it is with what the reader answers
 abbrev pub FirstHolds : Type 0
-FirstHolds = (l : List ℕ) (k : ℕ) (s : Sizes) → read_of l ≡ At k s → First l k s
+FirstHolds = (l : List ℕ) (k : ℕ) (s : Sizes) → read_of l ≡ Ok (found k s) → First l k s
 
 -- what was made reads back: a part's page, made in the memory from copy k on where no copy before it holds, is found there, with the part's
 -- own four numbers
 abbrev pub MadeReads : Type 0
 MadeReads =
     (g : Geometry) → Sound g → (l : List ℕ) → 768 ≤ length l → (k : ℕ) → k < 3 → ((j : ℕ) → j < k → ¬ Holds (copy_at j l)) →
-    read_of (take (256 * k) l ++ (make_of g (drop (256 * k) l)).memory) ≡ At k (sizes_of g)
+    read_of (take (256 * k) l ++ (make_of g (drop (256 * k) l)).memory) ≡ Ok (found k (sizes_of g))
 
 -- ---- damage
 

@@ -1,15 +1,19 @@
 -- The table's step is eight bits: a bit of the data may be added to the check before it is moved up, and what stays below the top only
 -- moves up.
 use mathlib.Core.Bool.{Bool, true, false, cond}
-use mathlib.Core.List.{List}
+use mathlib.Core.List.{List, [], ◌∷◌}
 use mathlib.Core.Path.{◌≡◌, refl, sym, ap, ◌∙◌}
 use Prim.Native.Nat.{ℕ, zero, suc, ◌+◌, ◌*◌, ◌/◌, ◌%◌, ◌<◌, ◌≤◌}
+use native.Mathlib.Nat.{add-zero}
 use native.Mathlib.Numerals.{add-one}
 use native.Mathlib.Omega.{arith}
 use lib.Bits.{bit_xor, xor_zero_l, xor_zero_r, xor_comm, xor_lt, xor_shr, xor_mod}
 use lib.Dec.{eqb}
-use lib.ListN.{length, get_or, drop, drop_of_length-le}
-use lib.Seq.{drop-cons}
+use lib.ListN.{length, get_or, take, drop}
+use lib.Seq.{drop-cons, drop-drop, get_or-take, get_or-drop}
+use Rattle.std.proofs.Common.{Some, None}
+use Rattle.std.specs.List.{slice_get}
+use Rattle.std.specs.Simd.{first_chunks}
 use Rattle.crc.specs.Crc.{polynomial, bit_fed, byte_fed, all_fed}
 use Rattle.crc.proofs.Xor.{xor_swap, xor_double}
 
@@ -102,23 +106,46 @@ by_entry c hc =
 
 -- ---- a stretch of bytes, at its place i
 
-module _ (s : List ℕ) (c i : ℕ) where
-  -- one byte more
-  pub one_on : i < length s → all_fed (byte_fed c (get_or s i 0)) (drop (i + 1) s) ≡ all_fed c (drop i s)
-  unfolding all_fed
-  one_on h = rw (drop-cons s i 0 h, add-one)
-
-  -- and at the end
-  pub all_end : length s ≤ i → all_fed c (drop i s) ≡ c
-  unfolding all_fed
-  all_end h = rw (drop_of_length-le s h)
+-- one byte more
+one_on : (s : List ℕ) (c i : ℕ) → i < length s → all_fed (byte_fed c (get_or s i 0)) (drop (i + 1) s) ≡ all_fed c (drop i s)
+unfolding all_fed
+one_on s c i h = rw (drop-cons s i 0 h, add-one)
 
 -- two bytes more
-pub two_on : (s : List ℕ) (c i : ℕ) → i + 1 < length s → all_fed (byte_fed (byte_fed c (get_or s i 0)) (get_or s (i + 1) 0)) (drop (i + 2) s) ≡ all_fed c (drop i s)
+two_on : (s : List ℕ) (c i : ℕ) → i + 1 < length s → all_fed (byte_fed (byte_fed c (get_or s i 0)) (get_or s (i + 1) 0)) (drop (i + 2) s) ≡ all_fed c (drop i s)
 two_on s c i h =
     let e : i + 2 ≡ i + 1 + 1 = omega arith in
     rw e (one_on s (byte_fed c (get_or s i 0)) (i + 1) h ∙ one_on s c i (omega arith))
 
--- and the last one
-pub last_on : (s : List ℕ) (c i : ℕ) → i < length s → length s ≤ i + 1 → byte_fed c (get_or s i 0) ≡ all_fed c (drop i s)
-last_on s c i h k = sym (all_end s (byte_fed c (get_or s i 0)) (i + 1) k) ∙ one_on s c i h
+-- ---- a stretch of bytes, cut into pairs
+
+-- pair i of them are the bytes at 2 i and behind it
+pair_at : (k i : ℕ) (s : List ℕ) → i < k → get_or (first_chunks 2 k s) i [] ≡ take 2 (drop (2 * i) s)
+pair_at zero i s h = absurd (omega arith)
+pair_at (suc k) zero s h = refl
+pair_at (suc k) (suc i) s h =
+    let e : 2 * suc i ≡ 2 + 2 * i = omega arith in
+    rw e (pair_at k i (drop 2 s) (omega arith) ∙ ap (take 2) (drop-drop (2 * i) 2 s))
+
+-- one pair more
+pub pair_on :
+    (s : List ℕ) (k c i : ℕ) → i < k → 2 * k ≤ length s →
+    all_fed (byte_fed (byte_fed c (get_or (get_or (first_chunks 2 k s) i []) 0 0)) (get_or (get_or (first_chunks 2 k s) i []) 1 0)) (drop (2 * (i + 1)) s)
+    ≡ all_fed c (drop (2 * i) s)
+pair_on s k c i h w =
+    let e : 2 * (i + 1) ≡ 2 * i + 2 = omega arith in
+    rw (e, pair_at k i s h, get_or-take 2 (drop (2 * i) s) 0 0 (omega arith), get_or-take 2 (drop (2 * i) s) 1 0 (omega arith), get_or-drop (2 * i) s 0 0, get_or-drop (2 * i) s 1 0, add-zero)
+    (two_on s c (2 * i) (omega arith))
+
+-- behind the pairs there is one byte
+pub one_left : (l : List ℕ) (c b : ℕ) → length l < 2 → Some b ≡ slice_get l 0 → byte_fed c b ≡ all_fed c l
+unfolding all_fed
+one_left [] c b h e = absurd (cc)
+one_left (x ∷ []) c b h e = let q : b ≡ x = cc in rw q refl
+one_left (x ∷ y ∷ l) c b h e = absurd (omega arith)
+
+-- or none
+pub none_left : (l : List ℕ) (c : ℕ) → None ≡ slice_get l 0 → c ≡ all_fed c l
+unfolding all_fed
+none_left [] c e = refl
+none_left (x ∷ l) c e = absurd (cc)

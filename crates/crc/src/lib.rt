@@ -1,4 +1,5 @@
 // The ONFI 1.0 check of a stretch of bytes, eight bits at a time by a table of 256 entries. Document 02, item 1.
+// `RightTable` is asked for by `requires`: there is one table, a constant, and a type around it would be one name more.
 #![tactic(auto)]
 
 ghost use Rattle.std.specs.Prelude.{◌≡◌};
@@ -9,28 +10,31 @@ mod table;
 use table::TABLE;
 
 // Eight bits of the check go out at the top, and eight 0 bits come in.
+#[tactic(auto, using(crate::proofs::Linear::by_entry))]
 fn moved(table: &[u16; 256], c: u16) -> u16
     requires { RightTable table.now }
     ensures { result ≡ byte_fed c 0 }
 {
-    let n = (c / 256) as usize;
+    let n = usize::from(c / 256);
     (c % 256 * 256) ^ table[n]
 }
 
 // One byte more. It is added to the upper eight bits, and they go out.
+#[tactic(auto, using(crate::proofs::Linear::data_added))]
 fn one_more(table: &[u16; 256], c: u16, b: u8) -> u16
     requires { RightTable table.now }
     ensures { result ≡ byte_fed c b }
 {
-    moved(table, c ^ (256 * (b as u16)))
+    moved(table, c ^ (256 * u16::from(b)))
 }
 
 // Two bytes more. They are added to all 16 bits at once, which then go out.
+#[tactic(auto, using(crate::proofs::Linear::both_added))]
 fn two_more(table: &[u16; 256], c: u16, b: u8, d: u8) -> u16
     requires { RightTable table.now }
     ensures { result ≡ byte_fed (byte_fed c b) d }
 {
-    let both = 256 * (b as u16) + (d as u16);
+    let both = 256 * u16::from(b) + u16::from(d);
     moved(table, moved(table, c ^ both))
 }
 
@@ -39,16 +43,15 @@ fn along(table: &[u16; 256], bytes: &[u8]) -> u16
     requires { RightTable table.now }
     ensures { result ≡ crc_of bytes.now }
 {
+    let (pairs, last) = bytes.as_chunks::<2>();
     let mut c: u16 = 0x4F4E;
-    let mut i = 0;
-    while 1 < bytes.len() - i {
-        c = two_more(table, c, bytes[i], bytes[i + 1]);
-        i += 2;
+    for pair in pairs {
+        c = two_more(table, c, pair[0], pair[1]);
     }
-    if i < bytes.len() {
-        return one_more(table, c, bytes[i]);
+    match last.first() {
+        Some(b) => one_more(table, c, *b),
+        None => c,
     }
-    c
 }
 
 // The check of a stretch of bytes. (The table is put on the stack once, and not again for each byte.)

@@ -8,12 +8,12 @@ ghost use Rattle.sheet.specs.Page.{make_of};
 ghost use Rattle.copies.specs.Copies.{figures, read_of};
 ghost use Rattle.page_face.specs.Face.{face_made, numbered, face_sizes};
 
-use copies::Found;
+use copies::{Found, ReadError};
 use part_numbers::CGeometry;
 
 // The four numbers of a page, the copy that they are from, and the refusal. (In C the first field is `data`.)
 #[repr(C)]
-#[derive(Clone, Copy)]
+#[derive(Clone, Copy, Debug, PartialEq, Eq)]
 pub struct CSizes {
     pub main: u32,
     pub pages: u32,
@@ -23,7 +23,7 @@ pub struct CSizes {
     pub refusal: u8,
 }
 
-// The numbers of an answer that is refused.
+// The numbers of an answer that is refused, as C is told it.
 fn refused(refusal: u8) -> CSizes
     ensures { result ≡ record { main = 0; pages = 0; blocks = 0; spare = 0; copy = 0; refusal = refusal } }
 {
@@ -38,20 +38,20 @@ fn refused(refusal: u8) -> CSizes
 }
 
 // The numbers of an answer.
-fn sizes_of(found: Found) -> CSizes
-    ensures { result ≡ face_sizes (figures found) }
+fn sizes_of(read: Result<Found, ReadError>) -> CSizes
+    ensures { result ≡ face_sizes (figures read) }
 {
-    match found {
-        Found::At(copy, s) => CSizes {
-            main: s.main,
-            pages: s.pages,
-            blocks: s.blocks,
-            spare: s.spare,
+    match read {
+        Ok(Found { copy, sizes }) => CSizes {
+            main: sizes.main,
+            pages: sizes.pages,
+            blocks: sizes.blocks,
+            spare: sizes.spare,
             copy,
             refusal: 0,
         },
-        Found::NoCopy => refused(10),
-        Found::TooShort => refused(11),
+        Err(ReadError::NoCopy) => refused(10),
+        Err(ReadError::TooShort) => refused(11),
     }
 }
 
@@ -59,9 +59,7 @@ fn sizes_of(found: Found) -> CSizes
 pub fn sleet_page_make(part: CGeometry, memory: &mut [u8]) -> u8
     ensures { face_made result memory.new ≡ numbered (make_of (part_of part) memory.old) }
 {
-    let g = part_numbers::part_of(part);
-    let made = sheet::make(g, memory);
-    sheet::made_number(made)
+    sheet::made_number(sheet::make(part_numbers::part_of(part), memory))
 }
 
 // The first of the three copies that holds.

@@ -13,15 +13,16 @@ use Rattle.part.proofs.Choice.{cond_keep}
 use Rattle.part.proofs.Laws.{sound_exactly}
 use Rattle.sheet.specs.Page.{MadeEnd, page_of, made_number, made_end, make_of}
 use Rattle.sheet.specs.Promises.{MakeLine, part_not_sound, too_short, room, MakerExactly, MakerKeeps}
-use Rattle.sheet.specs.declared.Made.TheVariants.{Laid, BadPart, NoRoom}
+use Rattle.std.proofs.Common.{Ok, Err}
+use Rattle.sheet.specs.declared.MakeError.TheVariants.{BadPart, NoRoom}
 use Rattle.sheet.proofs.Exact.{true_so, so_true, false_not, no_false}
 use Rattle.sheet.proofs.Pages.{page_length}
 
 -- the three ways that the making of a page can go
 data Makes (g : Geometry) (l : List ℕ) : MadeEnd → Type 0 where
-  bars_part : ¬ Sound g → Makes g l (made_end BadPart l)
-  bars_short : Sound g → length l < 256 → Makes g l (made_end NoRoom l)
-  lays : Sound g → 256 ≤ length l → Makes g l (made_end Laid (page_of g ++ drop 256 l))
+  bars_part : ¬ Sound g → Makes g l (made_end (Err BadPart) l)
+  bars_short : Sound g → length l < 256 → Makes g l (made_end (Err NoRoom) l)
+  lays : Sound g → 256 ≤ length l → Makes g l (made_end (Ok tt) (page_of g ++ drop 256 l))
 
 makes : (g : Geometry) (l : List ℕ) → Makes g l (make_of g l)
 unfolding make_of

@@ -4,7 +4,7 @@ use mathlib.Core.Path.{◌≡◌, refl}
 use Prim.Native.Nat.{ℕ}
 use native.Mathlib.Omega.{arith}
 use lib.ListN.{length, take, drop, drop_of_length-le, length-append}
-use lib.Seq.{take_all, take_at, drop_at}
+use lib.Seq.{take_at, drop_at}
 use Rattle.part.specs.declared.Geometry.{Geometry}
 use Rattle.crc.specs.Crc.{crc_of}
 use Rattle.texts.specs.Text.{bytes as characters}
@@ -26,8 +26,8 @@ page_length g = rw (length-append, sheet_length g, low_length)
 pub page-laid :
     (g : Geometry) (d : List ℕ) → length d ≡ 2 →
     take 254 (sheet_of g ++ d)
-    ++ (low_first (length (take 2 (drop 254 (sheet_of g ++ d)))) (crc_of (take 254 (sheet_of g ++ d))) ++ drop 2 (drop 254 (sheet_of g ++ d)))
+    ++ (low_first 2 (crc_of (take 254 (sheet_of g ++ d))) ++ drop 2 (drop 254 (sheet_of g ++ d)))
     ≡ sheet_of g ++ low_first 2 (crc_of (sheet_of g))
 page-laid g d h =
     let drop_all : drop 2 d ≡ [] = drop_of_length-le d {i = 2} (omega arith) in
-    rw (take_at (sheet_of g) d 254 (sheet_length g), drop_at (sheet_of g) d 254 (sheet_length g), take_all 2 d (omega arith), drop_all, h, append-nil)
+    rw (take_at (sheet_of g) d 254 (sheet_length g), drop_at (sheet_of g) d 254 (sheet_length g), drop_all, append-nil)

@@ -2,53 +2,26 @@
 #![tactic(auto)]
 
 ghost use Rattle.std.specs.Prelude.{◌≡◌, length};
-ghost use Rattle.sheet.specs.Numbers.{low_first};
 ghost use Rattle.sheet.specs.Sheet.{sheet_of, unnumbered};
 ghost use Rattle.sheet.specs.Page.{page_of, made_number, made_end, make_of};
 
 use part::Geometry;
 
-// What comes of making a page.
-#[derive(Clone, Copy)]
-pub enum Made {
-    Laid,
+// Why no page is made.
+#[derive(Clone, Copy, Debug, PartialEq, Eq)]
+pub enum MakeError {
     BadPart,
     NoRoom,
 }
 
-// The number of refusal of what the maker answers.
-pub fn made_number(m: Made) -> u8
-    ensures { result ≡ made_number m }
+// The number of refusal of what the maker answers, which C is told.
+pub fn made_number(made: Result<(), MakeError>) -> u8
+    ensures { result ≡ made_number made }
 {
-    match m {
-        Made::Laid => 0,
-        Made::BadPart => 1,
-        Made::NoRoom => 11,
-    }
-}
-
-// A number into a stretch, low byte first.
-fn put(n: u32, stretch: &mut [u8])
-    ensures { stretch.new ≡ low_first (length stretch.old) n }
-{
-    let mut left = n;
-    let mut i = 0;
-    while i < stretch.len() {
-        stretch[i] = (left % 256) as u8;
-        left = left / 256;
-        i += 1;
-    }
-}
-
-// One stretch into another that is as long.
-fn copy(from: &[u8], to: &mut [u8])
-    requires { length to.old ≡ length from.now }
-    ensures { to.new ≡ from.now }
-{
-    let mut i = 0;
-    while i < to.len() {
-        to[i] = from[i];
-        i += 1;
+    match made {
+        Ok(()) => 0,
+        Err(MakeError::BadPart) => 1,
+        Err(MakeError::NoRoom) => 11,
     }
 }
 
@@ -57,7 +30,7 @@ fn lay_table(sheet: &mut [u8])
     requires { length sheet.old ≡ 254 }
     ensures { sheet.new ≡ unnumbered }
 {
-    copy(
+    texts::copy(
         b"ONFI\
         \0\0\
         \0\0\
@@ -106,10 +79,11 @@ fn lay_sheet(g: Geometry, sheet: &mut [u8])
     ensures { sheet.new ≡ sheet_of g }
 {
     lay_table(sheet);
-    put(g.main, &mut sheet[80..84]);
-    put(g.spare, &mut sheet[84..86]);
-    put(g.pages, &mut sheet[92..96]);
-    put(g.blocks, &mut sheet[96..100]);
+    let spare = g.spare.to_le_bytes();
+    sheet[80..84].copy_from_slice(&g.main.to_le_bytes());
+    sheet[84..86].copy_from_slice(&spare[..2]);
+    sheet[92..96].copy_from_slice(&g.pages.to_le_bytes());
+    sheet[96..100].copy_from_slice(&g.blocks.to_le_bytes());
 }
 
 // The whole page: those bytes, and their check.
@@ -119,20 +93,20 @@ fn lay_page(g: Geometry, page: &mut [u8])
 {
     lay_sheet(g, &mut page[0..254]);
     let check = crc::check_of(&page[0..254]);
-    put(check as u32, &mut page[254..256]);
+    page[254..256].copy_from_slice(&check.to_le_bytes());
 }
 
 // A part's page at the front of lent memory; the bytes behind it stay. Refused, no byte is changed.
 #[tactic(auto, unfolding(crate::specs::Page::make_of))]
-pub fn make(g: Geometry, memory: &mut [u8]) -> Made
+pub fn make(g: Geometry, memory: &mut [u8]) -> Result<(), MakeError>
     ensures { made_end result memory.new ≡ make_of g memory.old }
 {
     if !g.sound() {
-        return Made::BadPart;
+        return Err(MakeError::BadPart);
     }
     if memory.len() < 256 {
-        return Made::NoRoom;
+        return Err(MakeError::NoRoom);
     }
     lay_page(g, &mut memory[0..256]);
-    Made::Laid
+    Ok(())
 }

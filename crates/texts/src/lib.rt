@@ -1,74 +1,63 @@
 // The texts of the refusals: one table of bytes, and how a text is put into lent memory.
 #![tactic(auto)]
 
-ghost use Rattle.std.specs.Prelude.{true, not, ◌&&◌, ◌≡◌, ◌≤◌, eqb, length, drop, get_or};
+ghost use Rattle.std.specs.Prelude.{true, ◌≡◌, ◌≤◌, eqb, length, drop, position};
 ghost use Rattle.texts.specs.Text.{text_of, up_to_nul, behind_number, face_laid, text_laid};
 
-// Whether a byte of a table begins the row of a number.
-fn row_of(inside: bool, b: u8, n: u8) -> bool
-    ensures { result ≡ not inside && eqb n b }
-{
-    if inside { false } else { n == b }
-}
-
-// Whether the next byte stands inside words: it does but for behind their NUL.
-fn within(inside: bool, b: u8) -> bool
-    ensures { result ≡ not (inside && eqb b 0) }
-{
-    if inside { b != 0 } else { true }
-}
-
-// Where the words of a number begin in a table.
+// Where the words of a number begin in a table: behind the number of its row, which is not inside words; 0, where those of any other
+// number begin, if it has no row. What follows a NUL is no longer inside words. (One table of bytes: docs/DECISIONS.md, 51.)
+#[tactic(auto, using(crate::proofs::Scans::hit, crate::proofs::Scans::missed, crate::proofs::Scans::none_left))]
 fn words_at(table: &[u8], n: u8) -> usize
     ensures { (result ≤ length table.now) × (drop result table.now ≡ behind_number true n table.now table.now) }
 {
     let mut inside = true;
-    let mut i = 0;
-    while i < table.len() {
-        let b = table[i];
-        i += 1;
-        if row_of(inside, b, n) {
-            return i;
+    for (i, b) in table.iter().enumerate() {
+        if !inside && n == *b {
+            return i + 1;
         }
-        inside = within(inside, b);
+        inside = !(inside && *b == 0);
     }
     0
 }
 
-// The byte at a place of a row, and a NUL past its end.
-fn byte_at(row: &[u8], i: usize) -> u8
-    ensures { result ≡ get_or row.now i 0 }
+// Where the first NUL of a row stands.
+fn first_nul(row: &[u8]) -> Option<usize>
+    ensures { result ≡ position (λ b. eqb b 0) row.now }
 {
-    if i < row.len() { row[i] } else { 0 }
+    row.iter().position(|b| *b == 0)
 }
 
 // How many bytes stand before the first NUL.
+#[tactic(auto, using(crate::proofs::Scans::nul_found))]
 fn nul_at(row: &[u8]) -> usize
     ensures { result ≡ length (up_to_nul row.now) }
 {
-    let mut i = 0;
-    while byte_at(row, i) != 0 {
-        i += 1;
+    first_nul(row).unwrap_or(row.len())
+}
+
+// One stretch into another that is as long, byte by byte: a copy by length would be turned into `memcpy`, and the library needs `memset`
+// alone.
+pub fn copy(from: &[u8], to: &mut [u8])
+    requires { length to.old ≡ length from.now }
+    ensures { to.new ≡ from.now }
+{
+    for i in 0..to.len() {
+        to[i] = from[i];
     }
-    i
 }
 
 // The bytes before a NUL at the front of lent memory, a NUL behind them, and their number; or 0 and not a byte.
 fn lay(row: &[u8], out: &mut [u8]) -> usize
     ensures { face_laid result out.new ≡ text_laid (up_to_nul row.now) out.old }
 {
-    if out.len() <= nul_at(row) {
+    let n = nul_at(row);
+    if out.len() <= n {
+        // 0 where there is no room is what sleet_text answers (`text_laid`).
         return 0;
     }
-    let mut i = 0;
-    let mut b = byte_at(row, 0);
-    while b != 0 {
-        out[i] = b;
-        i += 1;
-        b = byte_at(row, i);
-    }
-    out[i] = 0;
-    i
+    copy(&row[..n], &mut out[..n]);
+    out[n] = 0;
+    n
 }
 
 // The words of a number in a table, laid.

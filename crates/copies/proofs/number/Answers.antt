@@ -21,8 +21,8 @@ overflow_add-n c =
       c.requires,
       l.invariant.small,
       three_bytes (length c.args.stretch.now - l.i) (omega (arith, c.requires)),
-      c.shared_slice_known-1.given (l.i - 1),
+      c.type_inv.stretch (l.i - 1),
     )
 
 pub loop-i-preserved : goal.loop-i-preserved
-loop-i-preserved c = one_read c.loop-i.invariant (omega arith) (omega (arith, c.shared_slice_known-1.given (c.loop-i.i - 1)))
+loop-i-preserved c = rw c.from.ensures (one_read c.loop-i.invariant (omega arith) (omega (arith, c.type_inv.stretch (c.loop-i.i - 1))))
