@@ -1,5 +1,6 @@
 -- Beside a run, in plain numbers: the header's version, the next byte, the units of an operation, and memory that was never used.
-use Rattle.std.specs.Prelude.{List, ℕ, eqb, if◌then◌else◌}
+use Rattle.std.specs.Prelude.{List, ℕ, eqb, if◌then◌else◌, Option, Some, None, Result, Ok, Err}
+use Rattle.device.specs.declared.State.{State}
 use Rattle.part.specs.declared.Geometry.{Geometry}
 use Rattle.array.specs.declared.Job.TheVariants.{Read, Program, Erase, Restart}
 use Rattle.part_numbers.specs.Numbers.{part_of}
@@ -7,11 +8,9 @@ use Rattle.face.specs.Face.{row, state_of, stand_in}
 use Rattle.part_numbers.specs.declared.CGeometry.{CGeometry}
 use Rattle.face.specs.declared.CState.{CState}
 use Rattle.face.specs.declared.CPeek.{CPeek}
-use Rattle.face.specs.declared.Told.{Told}
-use Rattle.face.specs.declared.Told.TheVariants.{Good, Bad}
-use Rattle.refusals.specs.Refusals.{number_of}
+use Rattle.refusals.specs.Refusals.{number_of, line_of}
 use Rattle.beside.specs.Beside.{peek_of, operation_length, units_left, Blanked, blank_of}
-use Rattle.beside.specs.declared.Peeked.{Peeked}
+use Rattle.refusals.specs.declared.Refusal.{Refusal}
 
 -- the header's number; the header that had none was the first
 abbrev pub version : ℕ
@@ -19,9 +18,10 @@ version = 3
 
 -- ---- the next byte
 
--- in numbers
-abbrev pub face_peek : Peeked → CPeek
-face_peek p = record { refusal = number_of p.refusal; byte = p.byte }
+-- in numbers; FFh where it is refused
+abbrev pub face_peek : Result ℕ Refusal → CPeek
+face_peek (Ok b) = record { refusal = 0; byte = b }
+face_peek (Err r) = record { refusal = number_of r; byte = 0xFF }
 
 -- numbers that stand for no state are refused as a state that is sound on no part
 abbrev pub peeked_of : CGeometry → CState → List ℕ → CPeek
@@ -39,9 +39,9 @@ length_at g job =
     else 0
 
 -- those left; no state has none
-abbrev pub left_told : Geometry → Told → ℕ
-left_told g (Good s) = units_left g s
-left_told g Bad = 0
+abbrev pub left_told : Geometry → Option State → ℕ
+left_told g (Some s) = units_left g s
+left_told g None = 0
 
 -- ---- memory that was never used
 
@@ -58,7 +58,7 @@ face_blank r cells cache counts = record { refusal = r; cells = cells; cache = c
 
 -- in numbers
 abbrev pub blanked_as : Blanked → CBlank
-blanked_as b = face_blank (number_of b.refusal) b.cells b.cache b.counts
+blanked_as b = face_blank (number_of (line_of b.answer)) b.cells b.cache b.counts
 
 abbrev pub blanked_of : CGeometry → List ℕ → List ℕ → List ℕ → CBlank
 blanked_of g cells cache counts = blanked_as (blank_of (part_of g) cells cache counts)

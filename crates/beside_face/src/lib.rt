@@ -12,12 +12,12 @@ ghost use Rattle.texts.specs.Text.{text_of, face_laid, text_laid};
 ghost use Rattle.beside_face.specs.Beside.{version, peeked_of, face_peek, length_at, left_told, face_blank, blanked_of};
 
 use array::Job;
-use beside::Peeked;
 use device::State;
-use face::{CPeek, CState, Told};
+use face::{CPeek, CState};
 use part::{Bench, Fm25s005bi3, Row};
 use part_numbers::CGeometry;
 use record_numbers::{CFound, CRecord, CWrote};
+use refusals::Refusal;
 
 // The version of the header that this library goes with.
 pub fn sleet_version() -> u32
@@ -102,19 +102,21 @@ pub fn sleet_units_left(part: CGeometry, state: CState) -> usize
 {
     let g = part_numbers::part_of(part);
     match face::state_of(state) {
-        Told::Good(s) => beside::units_left(g, s),
-        Told::Bad => 0,
+        Some(s) => beside::units_left(g, s),
+        None => 0,
     }
 }
 
-// The next byte in numbers.
-fn peek_of(p: Peeked) -> CPeek
+// The next byte in numbers; FFh where it is refused.
+fn peek_of(p: Result<u8, Refusal>) -> CPeek
     ensures { result ≡ face_peek p }
 {
-    let why = p.refusal;
-    CPeek {
-        refusal: refusals::number_of(why),
-        byte: p.byte,
+    match p {
+        Ok(byte) => CPeek { refusal: 0, byte },
+        Err(r) => CPeek {
+            refusal: refusals::number_of(r),
+            byte: 0xFF,
+        },
     }
 }
 
@@ -133,7 +135,10 @@ pub fn sleet_blank(part: CGeometry, cells: &mut [u8], cache: &mut [u8], counts: 
         ≡ blanked_of part cells.old cache.old counts.old }
 {
     let g = part_numbers::part_of(part);
-    refusals::number_of(beside::blank(g, cells, cache, counts))
+    match beside::blank(g, cells, cache, counts) {
+        Ok(()) => 0,
+        Err(r) => refusals::number_of(r),
+    }
 }
 
 // The record at a place of a log.

@@ -1,8 +1,9 @@
 // Bytes exchanged on the bus, with no log in between: a whole transfer, or a piece of one. Each is the run of its records.
 // Document 01, "Logs" and "Instructions".
+// Buffers are lent one by one: `walk` says why.
 #![tactic(auto)]
 
-ghost use Rattle.std.specs.Prelude.{true, ◌≡◌, ◌≤◌, min, length};
+ghost use Rattle.std.specs.Prelude.{true, ◌≡◌, ◌≤◌, length};
 ghost use Rattle.buslog.specs.Log.{written};
 ghost use Rattle.transfer.specs.Transfer.{is};
 ghost use Rattle.device.specs.Machine.{machine};
@@ -12,30 +13,23 @@ ghost use Rattle.stream.specs.Streams.{Past, loading, streams};
 ghost use Rattle.exchange.specs.Exchange.{shifts_of, transfer_of, unlogged, Exchanged};
 
 use buslog::Record;
+use codes::Instruction;
 use device::State;
 use part::Geometry;
 use refusals::Refusal;
 use walk::{Answer, Walk};
 
-// The lesser of two numbers.
-fn least(a: usize, b: usize) -> usize
-    ensures { result ≡ min a b }
-{
-    if a < b { a } else { b }
-}
-
-// The bytes of a cache read, all behind the fifth byte of its transfer.
+// The bytes of a cache read, all behind the fifth byte of its transfer. (This loop and the next are not those of `stream`, which read their
+// bytes out of a log, where each has a kind before it and the first that is no shift ends them.)
 fn reads(g: Geometry, s: State, di: &[u8], cache: &[u8], out: &mut [u8]) -> State
     requires { (Past s.bus) × (is s.bus.transfer 0x03 ≡ true) × (length di.now ≤ length out.old) }
     ensures { Exchanged g s cache.now di.now out.old result cache.now out.new }
 {
     let page = g.page();
     let mut c = s.bus.transfer.column;
-    let mut i = 0;
-    while i < di.len() {
+    for i in 0..di.len() {
         out[i] = columns::byte_at(cache, c);
         c = columns::next_read(page, c);
-        i += 1;
     }
     stream::at_column(c, s)
 }
@@ -46,12 +40,10 @@ fn loads(g: Geometry, s: State, di: &[u8], cache: &mut [u8], out: &mut [u8]) -> 
     ensures { Exchanged g s cache.old di.now out.old result cache.new out.new }
 {
     let mut c = s.bus.transfer.column;
-    let mut i = 0;
-    while i < di.len() {
-        columns::store_at(cache, c, di[i]);
+    for (i, b) in di.iter().enumerate() {
+        columns::store_at(cache, c, *b);
         out[i] = 0xFF;
         c = columns::next_column(c);
-        i += 1;
     }
     stream::at_column(c, s)
 }
@@ -61,11 +53,10 @@ fn streamed(g: Geometry, s: State, di: &[u8], cache: &mut [u8], out: &mut [u8]) 
     requires { (streams s.bus ≡ true) × (length di.now ≤ length out.old) }
     ensures { Exchanged g s cache.old di.now out.old result cache.new out.new }
 {
-    let t = s.bus.transfer;
-    if t.is(0x03) {
-        return reads(g, s, di, &*cache, out);
+    match s.bus.transfer.instruction {
+        Instruction::ReadCache => reads(g, s, di, &*cache, out),
+        _ => loads(g, s, di, cache, out),
     }
-    loads(g, s, di, cache, out)
 }
 
 // Bytes in on DI and out on DO: one after another, and once they are a stream all that are left. Only the bus and the cache register
@@ -77,8 +68,7 @@ fn exchanged(g: Geometry, s: State, di: &[u8], cache: &mut [u8], out: &mut [u8])
     let r = s.regs;
     let busy = registers::oip(r.c0);
     let mut x = s.bus;
-    let mut i = 0;
-    while i < di.len() {
+    for i in 0..di.len() {
         if stream::streams(x) {
             return streamed(g, State { bus: x, ..s }, &di[i..], cache, &mut out[i..]);
         }
@@ -86,7 +76,6 @@ fn exchanged(g: Geometry, s: State, di: &[u8], cache: &mut [u8], out: &mut [u8])
         out[i] = reply::byte_out(g, r, x, &*cache);
         x.caches(g, b, cache);
         x = x.shifted_in(g, busy, b);
-        i += 1;
     }
     State { bus: x, ..s }
 }
@@ -104,11 +93,10 @@ pub fn shifts(
     ensures { seen result cells.new cache.new counts.new out.new
         ≡ unlogged (shown (run_of g (unitwise g) (length out.old) (written (shifts_of di.now)) (machine state cells.old cache.old counts.old)) out.old) }
 {
-    let k = refusals::check(g, state, cells.len(), cache.len(), counts.len());
-    if !refusals::passes(k) {
-        return Walk::start(state).so_far(k);
+    if let Err(r) = refusals::check(g, state, cells.len(), cache.len(), counts.len()) {
+        return Walk::start(state).so_far(r);
     }
-    let n = least(di.len(), out.len());
+    let n = di.len().min(out.len());
     let s = exchanged(g, state, &di[0..n], cache, out);
     if n < di.len() {
         return Answer {
@@ -142,11 +130,10 @@ pub fn transfer(
     ensures { seen result cells.new cache.new counts.new out.new
         ≡ unlogged (shown (run_of g (unitwise g) (length out.old) (written (transfer_of di.now)) (machine state cells.old cache.old counts.old)) out.old) }
 {
-    let k = refusals::check(g, state, cells.len(), cache.len(), counts.len());
-    if !refusals::passes(k) {
-        return Walk::start(state).so_far(k);
+    if let Err(r) = refusals::check(g, state, cells.len(), cache.len(), counts.len()) {
+        return Walk::start(state).so_far(r);
     }
-    let n = least(di.len(), out.len());
+    let n = di.len().min(out.len());
     let on = state.select();
     let s = exchanged(g, on, &di[0..n], cache, out);
     if n < di.len() {

@@ -1,4 +1,5 @@
 -- A state and its numbers go there and back; and what stands in for no state is never sound.
+use Rattle.std.specs.Prelude.{Option, Some, None}
 use mathlib.Core.Bool.{Bool, true, false, cond, ◌&&◌}
 use mathlib.Core.Path.{◌≡◌, refl, sym}
 use Prim.Native.Nat.{ℕ, ◌≤◌}
@@ -16,15 +17,10 @@ use Rattle.device.specs.Sound.{sound_state}
 use Rattle.device.specs.declared.State.{State}
 use Rattle.face.specs.Face.{instruction_at, row, work_at, state_as, told_code, state_of, flag, faced, faced_work, face_of}
 use Rattle.face.specs.Promises.{StateBack, FaceBack, NeverSound}
-use Rattle.face.specs.declared.Code.{Code}
-use Rattle.face.specs.declared.Code.TheVariants.{Known, Unknown}
-use Rattle.face.specs.declared.Doing.{Doing}
-use Rattle.face.specs.declared.Doing.TheVariants.{Going, Nowhere}
-use Rattle.face.specs.declared.Told.TheVariants.{Good, Bad}
 
 -- ---- the numbers of a state stand for that state
 
-code_known : (i : Instruction) → instruction_at (byte_of i) ≡ Known i
+code_known : (i : Instruction) → instruction_at (byte_of i) ≡ Some i
 code_known Ignored = refl
 code_known WriteEnable = refl
 code_known WriteDisable = refl
@@ -54,7 +50,7 @@ module _ (s : State) where
   abbrev on : Bool
   on = s.bus.transfer.selected
 
-  back_with : (w : Work) → state_of (faced_work s w) ≡ Good (work_in w s)
+  back_with : (w : Work) → state_of (faced_work s w) ≡ Some (work_in w s)
   unfolding state_of
   back_with Idle = rw (code_known s.bus.transfer.instruction, flag_low wp, flag_low on, flag_read wp, flag_read on)
   back_with (Busy (Read r) u) = rw (code_known s.bus.transfer.instruction, flag_low wp, flag_low on, flag_read wp, flag_read on)
@@ -72,14 +68,14 @@ never : {A B : Type 0} {x y : A} → (x ≡ y → ◌≡◌ {A = ℕ} 0 1) → x
 never f h = let z : ◌≡◌ {A = ℕ} 0 1 = f h in let n : ⊥ = omega arith in absurd n
 
 -- a choice that ends in a known instruction took the first way or the second
-code_step : (k n : ℕ) (j : Instruction) (rest : Code) (i : Instruction) → byte_of j ≡ n → (rest ≡ Known i → byte_of i ≡ k) → cond (eqb k n) (Known j) rest ≡ Known i → byte_of i ≡ k
+code_step : (k n : ℕ) (j : Instruction) (rest : Option Instruction) (i : Instruction) → byte_of j ≡ n → (rest ≡ Some i → byte_of i ≡ k) → cond (eqb k n) (Some j) rest ≡ Some i → byte_of i ≡ k
 code_step k n j rest i hj hrest = go (eqb k n) refl
   where
-    go : (t : Bool) → eqb k n ≡ t → cond t (Known j) rest ≡ Known i → byte_of i ≡ k
+    go : (t : Bool) → eqb k n ≡ t → cond t (Some j) rest ≡ Some i → byte_of i ≡ k
     go true e h = let q : i ≡ j = cc in rw (q, hj) (sym (eqb-true k n e))
     go false e h = hrest h
 
-code_back : (k : ℕ) (i : Instruction) → instruction_at k ≡ Known i → byte_of i ≡ k
+code_back : (k : ℕ) (i : Instruction) → instruction_at k ≡ Some i → byte_of i ≡ k
 code_back k i =
     code_step k 256 Ignored _ i refl (code_step k 0x06 WriteEnable _ i refl (code_step k 0x04 WriteDisable _ i refl (code_step k 0x0F GetFeature _ i refl
     (code_step k 0x1F SetFeature _ i refl (code_step k 0x9F ReadId _ i refl (code_step k 0x13 PageRead _ i refl (code_step k 0x03 ReadCache _ i refl
@@ -87,15 +83,15 @@ code_back k i =
     (code_step k 0xFF Reset _ i refl (never (λ h. cc))))))))))))))
 
 -- the same of an operation
-work_step : (P : Type 0) (t : Bool) (x y : Doing) (w : Work) → (t ≡ true → x ≡ Going w → P) → (y ≡ Going w → P) → cond t x y ≡ Going w → P
+work_step : (P : Type 0) (t : Bool) (x y : Option Work) (w : Work) → (t ≡ true → x ≡ Some w → P) → (y ≡ Some w → P) → cond t x y ≡ Some w → P
 work_step P true x y w f g h = f refl h
 work_step P false x y w f g h = g h
 
 module _ (s : State) (k r u : ℕ) (w : Work) where
-  nowhere : Nowhere ≡ Going w → faced_work s w ≡ faced s k r u
+  nowhere : None ≡ Some w → faced_work s w ≡ faced s k r u
   nowhere = never (λ h. cc)
 
-  work_back : work_at k r u ≡ Going w → faced_work s w ≡ faced s k r u
+  work_back : work_at k r u ≡ Some w → faced_work s w ≡ faced s k r u
   work_back =
       work_step (faced_work s w ≡ faced s k r u) (eqb k 0) _ _ w
       (λ e. work_step (faced_work s w ≡ faced s k r u) (eqb r 0) _ _ w (λ e1. work_step (faced_work s w ≡ faced s k r u) (eqb u 0) _ _ w
@@ -118,18 +114,18 @@ pub face_back : FaceBack
 unfolding state_of face_of
 face_back c s = go (instruction_at c.instruction) refl (work_at c.job c.row c.units) refl
   where
-    good : (i : Instruction) (w : Work) (a b : Bool) → instruction_at c.instruction ≡ Known i → work_at c.job c.row c.units ≡ Going w → leb c.wp 1 ≡ a → leb c.selected 1 ≡ b
-        → cond (a && b) (Good (state_as c i w)) Bad ≡ Good s → faced_work s s.work ≡ c
+    good : (i : Instruction) (w : Work) (a b : Bool) → instruction_at c.instruction ≡ Some i → work_at c.job c.row c.units ≡ Some w → leb c.wp 1 ≡ a → leb c.selected 1 ≡ b
+        → cond (a && b) (Some (state_as c i w)) None ≡ Some s → faced_work s s.work ≡ c
     good i w true true ei ew ea eb h =
         let q : s ≡ state_as c i w = cc in
         rw (q, work_back (state_as c i w) c.job c.row c.units w ew, code_back c.instruction i ei, flag_back c.wp (leb-true c.wp 1 ea), flag_back c.selected (leb-true c.selected 1 eb))
     good i w true false ei ew ea eb h = never (λ h. cc) h
     good i w false b ei ew ea eb h = never (λ h. cc) h
 
-    go : (k : Code) → instruction_at c.instruction ≡ k → (d : Doing) → work_at c.job c.row c.units ≡ d → told_code c k d ≡ Good s → faced_work s s.work ≡ c
-    go (Known i) ei (Going w) ew h = good i w (leb c.wp 1) (leb c.selected 1) ei ew refl refl h
-    go (Known i) ei Nowhere ew h = never (λ h. cc) h
-    go Unknown ei d ew h = never (λ h. cc) h
+    go : (k : Option Instruction) → instruction_at c.instruction ≡ k → (d : Option Work) → work_at c.job c.row c.units ≡ d → told_code c k d ≡ Some s → faced_work s s.work ≡ c
+    go (Some i) ei (Some w) ew h = good i w (leb c.wp 1) (leb c.selected 1) ei ew refl refl h
+    go (Some i) ei None ew h = never (λ h. cc) h
+    go None ei d ew h = never (λ h. cc) h
 
 -- ---- the stand-in
 

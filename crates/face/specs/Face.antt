@@ -1,5 +1,5 @@
 -- The device state in plain numbers, as C has them: what they stand for, and the numbers of a state.
-use Rattle.std.specs.Prelude.{Bool, false, ◌&&◌, ℕ, eqb, leb, if◌then◌else◌}
+use Rattle.std.specs.Prelude.{Bool, false, ◌&&◌, ℕ, eqb, leb, if◌then◌else◌, Option, Some, None}
 use Rattle.part.specs.declared.Geometry.{Geometry}
 use Rattle.part.specs.declared.Row.{Row}
 use Rattle.array.specs.declared.Job.{Job}
@@ -13,46 +13,40 @@ use Rattle.codes.specs.declared.Instruction.TheVariants.{Ignored, WriteEnable, W
 use Rattle.device.specs.Sound.{sound_state}
 use Rattle.device.specs.declared.State.{State}
 use Rattle.face.specs.declared.CState.{CState}
-use Rattle.face.specs.declared.Code.{Code}
-use Rattle.face.specs.declared.Code.TheVariants.{Known, Unknown}
-use Rattle.face.specs.declared.Doing.{Doing}
-use Rattle.face.specs.declared.Doing.TheVariants.{Going, Nowhere}
-use Rattle.face.specs.declared.Told.{Told}
-use Rattle.face.specs.declared.Told.TheVariants.{Good, Bad}
 
 -- ---- what a state's numbers stand for
 
 -- the instruction of a code; a code that no instruction has stands for none
-abbrev pub instruction_at : ℕ → Code
+abbrev pub instruction_at : ℕ → Option Instruction
 instruction_at k =
-    if eqb k 256 then Known Ignored
-    else if eqb k 0x06 then Known WriteEnable
-    else if eqb k 0x04 then Known WriteDisable
-    else if eqb k 0x0F then Known GetFeature
-    else if eqb k 0x1F then Known SetFeature
-    else if eqb k 0x9F then Known ReadId
-    else if eqb k 0x13 then Known PageRead
-    else if eqb k 0x03 then Known ReadCache
-    else if eqb k 0x02 then Known Load
-    else if eqb k 0x84 then Known LoadRandom
-    else if eqb k 0x10 then Known Execute
-    else if eqb k 0xD8 then Known BlockErase
-    else if eqb k 0xFF then Known Reset
-    else Unknown
+    if eqb k 256 then Some Ignored
+    else if eqb k 0x06 then Some WriteEnable
+    else if eqb k 0x04 then Some WriteDisable
+    else if eqb k 0x0F then Some GetFeature
+    else if eqb k 0x1F then Some SetFeature
+    else if eqb k 0x9F then Some ReadId
+    else if eqb k 0x13 then Some PageRead
+    else if eqb k 0x03 then Some ReadCache
+    else if eqb k 0x02 then Some Load
+    else if eqb k 0x84 then Some LoadRandom
+    else if eqb k 0x10 then Some Execute
+    else if eqb k 0xD8 then Some BlockErase
+    else if eqb k 0xFF then Some Reset
+    else None
 
 -- a row by its number
 abbrev pub row : ℕ → Row
 row r = record { 0 = r }
 
 -- the operation: 0 none, and then no row and no units; 1 read, 2 program, 3 erase; 4 reset, and then no row
-abbrev pub work_at : ℕ → ℕ → ℕ → Doing
+abbrev pub work_at : ℕ → ℕ → ℕ → Option Work
 work_at job r units =
-    if eqb job 0 then (if eqb r 0 then (if eqb units 0 then Going Idle else Nowhere) else Nowhere)
-    else if eqb job 1 then Going (Busy (Read (row r)) units)
-    else if eqb job 2 then Going (Busy (Program (row r)) units)
-    else if eqb job 3 then Going (Busy (Erase (row r)) units)
-    else if eqb job 4 then (if eqb r 0 then Going (Busy Restart units) else Nowhere)
-    else Nowhere
+    if eqb job 0 then (if eqb r 0 then (if eqb units 0 then Some Idle else None) else None)
+    else if eqb job 1 then Some (Busy (Read (row r)) units)
+    else if eqb job 2 then Some (Busy (Program (row r)) units)
+    else if eqb job 3 then Some (Busy (Erase (row r)) units)
+    else if eqb job 4 then (if eqb r 0 then Some (Busy Restart units) else None)
+    else None
 
 -- the state with an instruction and an operation; 1 is a flag that is set
 abbrev pub state_as : CState → Instruction → Work → State
@@ -81,17 +75,17 @@ abbrev pub flags_good : CState → Bool
 flags_good c = leb c.wp 1 && leb c.selected 1
 
 -- with an operation and good flags there is a state
-abbrev pub told_work : CState → Instruction → Doing → Told
-told_work c i (Going w) = if flags_good c then Good (state_as c i w) else Bad
-told_work c i Nowhere = Bad
+abbrev pub told_work : CState → Instruction → Option Work → Option State
+told_work c i (Some w) = if flags_good c then Some (state_as c i w) else None
+told_work c i None = None
 
 -- with no instruction there is none
-abbrev pub told_code : CState → Code → Doing → Told
-told_code c (Known i) d = told_work c i d
-told_code c Unknown d = Bad
+abbrev pub told_code : CState → Option Instruction → Option Work → Option State
+told_code c (Some i) d = told_work c i d
+told_code c None d = None
 
 -- the state that the numbers stand for, if they stand for one
-unfoldable pub state_of : CState → Told
+unfoldable pub state_of : CState → Option State
 state_of c = told_code c (instruction_at c.instruction) (work_at c.job c.row c.units)
 
 -- ---- from a state to its numbers
@@ -141,9 +135,9 @@ face_of s = faced_work s s.work
 -- ---- whether they stand for a sound state
 
 -- no state is not sound
-abbrev pub sound_told : Geometry → Told → Bool
-sound_told g (Good s) = sound_state g s
-sound_told g Bad = false
+abbrev pub sound_told : Geometry → Option State → Bool
+sound_told g (Some s) = sound_state g s
+sound_told g None = false
 
 -- ---- numbers that stand for no state: a state stands in for them, and they are given back as they came
 
@@ -152,11 +146,11 @@ abbrev pub no_state : State
 no_state = record { regs = record { a0 = 0; b0 = 0; c0 = 0xF0; d0 = 0 }; bus = record { pins = record { wp = false }; transfer = fresh false }; work = Idle }
 
 -- the state to run
-abbrev pub stand_in : Told → State
-stand_in (Good s) = s
-stand_in Bad = no_state
+abbrev pub stand_in : Option State → State
+stand_in (Some s) = s
+stand_in None = no_state
 
 -- the numbers to give back: those of the state after, or those that came
-abbrev pub handed_back : Told → CState → State → CState
-handed_back (Good s) c after = face_of after
-handed_back Bad c after = c
+abbrev pub handed_back : Option State → CState → State → CState
+handed_back (Some s) c after = face_of after
+handed_back None c after = c

@@ -3,7 +3,7 @@
 
 ghost use Rattle.std.specs.Prelude.{◌≡◌};
 ghost use Rattle.part_numbers.specs.Numbers.{part_of};
-ghost use Rattle.face.specs.Face.{instruction_at, work_at, state_as, state_of, flag, faced, faced_job, face_of, sound_told, no_state, stand_in, handed_back};
+ghost use Rattle.face.specs.Face.{instruction_at, work_at, state_as, state_of, faced, faced_job, face_of, sound_told, no_state, stand_in, handed_back};
 
 use array::{Job, Work};
 use codes::Instruction;
@@ -62,71 +62,38 @@ pub struct CPeek {
 }
 
 // The instruction of a code, if it has one.
-#[derive(Clone, Copy)]
-pub enum Code {
-    Known(Instruction),
-    Unknown,
-}
-
-// The operation of a job, a row and units, if they have one.
-#[derive(Clone, Copy)]
-pub enum Doing {
-    Going(Work),
-    Nowhere,
-}
-
-// The state that numbers stand for, if there is one.
-#[derive(Clone, Copy)]
-pub enum Told {
-    Good(State),
-    Bad,
-}
-
-// The instruction of a code.
-fn instruction_at(code: u16) -> Code
+fn instruction_at(code: u16) -> Option<Instruction>
     ensures { result ≡ instruction_at code }
 {
     match code {
-        256 => Code::Known(Instruction::Ignored),
-        0x06 => Code::Known(Instruction::WriteEnable),
-        0x04 => Code::Known(Instruction::WriteDisable),
-        0x0F => Code::Known(Instruction::GetFeature),
-        0x1F => Code::Known(Instruction::SetFeature),
-        0x9F => Code::Known(Instruction::ReadId),
-        0x13 => Code::Known(Instruction::PageRead),
-        0x03 => Code::Known(Instruction::ReadCache),
-        0x02 => Code::Known(Instruction::Load),
-        0x84 => Code::Known(Instruction::LoadRandom),
-        0x10 => Code::Known(Instruction::Execute),
-        0xD8 => Code::Known(Instruction::BlockErase),
-        0xFF => Code::Known(Instruction::Reset),
-        _ => Code::Unknown,
+        256 => Some(Instruction::Ignored),
+        0x06 => Some(Instruction::WriteEnable),
+        0x04 => Some(Instruction::WriteDisable),
+        0x0F => Some(Instruction::GetFeature),
+        0x1F => Some(Instruction::SetFeature),
+        0x9F => Some(Instruction::ReadId),
+        0x13 => Some(Instruction::PageRead),
+        0x03 => Some(Instruction::ReadCache),
+        0x02 => Some(Instruction::Load),
+        0x84 => Some(Instruction::LoadRandom),
+        0x10 => Some(Instruction::Execute),
+        0xD8 => Some(Instruction::BlockErase),
+        0xFF => Some(Instruction::Reset),
+        _ => None,
     }
 }
 
-// The operation of a job, a row and units.
-fn work_at(job: u8, row: u16, units: usize) -> Doing
+// The operation of a job, a row and units, if they have one.
+fn work_at(job: u8, row: u16, units: usize) -> Option<Work>
     ensures { result ≡ work_at job row units }
 {
     match job {
-        0 => {
-            if row == 0 {
-                if units == 0 {
-                    return Doing::Going(Work::Idle);
-                }
-            }
-            Doing::Nowhere
-        }
-        1 => Doing::Going(Work::Busy(Job::Read(Row(row)), units)),
-        2 => Doing::Going(Work::Busy(Job::Program(Row(row)), units)),
-        3 => Doing::Going(Work::Busy(Job::Erase(Row(row)), units)),
-        4 => {
-            if row != 0 {
-                return Doing::Nowhere;
-            }
-            Doing::Going(Work::Busy(Job::Restart, units))
-        }
-        _ => Doing::Nowhere,
+        0 if row == 0 && units == 0 => Some(Work::Idle),
+        1 => Some(Work::Busy(Job::Read(Row(row)), units)),
+        2 => Some(Work::Busy(Job::Program(Row(row)), units)),
+        3 => Some(Work::Busy(Job::Erase(Row(row)), units)),
+        4 if row == 0 => Some(Work::Busy(Job::Restart, units)),
+        _ => None,
     }
 }
 
@@ -157,61 +124,40 @@ fn state_as(c: CState, i: Instruction, w: Work) -> State
     }
 }
 
-// The state that numbers stand for.
+// The state that numbers stand for, if there is one.
 #[tactic(auto, unfolding(crate::specs::Face::state_of))]
-pub fn state_of(c: CState) -> Told
+pub fn state_of(c: CState) -> Option<State>
     ensures { result ≡ state_of c }
 {
-    match instruction_at(c.instruction) {
-        Code::Known(i) => match work_at(c.job, c.row, c.units) {
-            Doing::Going(w) => {
-                if 1 < c.wp {
-                    return Told::Bad;
-                }
-                if 1 < c.selected {
-                    return Told::Bad;
-                }
-                Told::Good(state_as(c, i, w))
-            }
-            Doing::Nowhere => Told::Bad,
-        },
-        Code::Unknown => Told::Bad,
+    let i = instruction_at(c.instruction)?;
+    let w = work_at(c.job, c.row, c.units)?;
+    if 1 < c.wp || 1 < c.selected {
+        return None;
     }
-}
-
-// A flag as a number.
-fn flag(b: bool) -> u8
-    ensures { result ≡ flag b }
-{
-    if b { 1 } else { 0 }
+    Some(state_as(c, i, w))
 }
 
 // The numbers of a state whose operation has these.
 fn faced(s: State, job: u8, row: u16, units: usize) -> CState
     ensures { result ≡ faced s job row units }
 {
-    let regs = s.regs;
-    let x = s.bus;
-    let pins = x.pins;
-    let t = x.transfer;
-    let i = t.instruction;
-    let column = t.column;
+    let t = s.bus.transfer;
     CState {
-        a0: regs.a0,
-        b0: regs.b0,
-        c0: regs.c0,
-        d0: regs.d0,
-        wp: flag(pins.wp),
-        selected: flag(t.selected),
+        a0: s.regs.a0,
+        b0: s.regs.b0,
+        c0: s.regs.c0,
+        d0: s.regs.d0,
+        wp: u8::from(s.bus.pins.wp),
+        selected: u8::from(t.selected),
         count: t.count,
         first: t.first,
         second: t.second,
         third: t.third,
-        job: job,
-        instruction: codes::byte_of(i),
-        column: column.0,
-        row: row,
-        units: units,
+        job,
+        instruction: codes::byte_of(t.instruction),
+        column: t.column.0,
+        row,
+        units,
     }
 }
 
@@ -228,11 +174,11 @@ fn faced_job(s: State, job: Job, units: usize) -> CState
 }
 
 // The numbers of a state.
+#[tactic(auto, unfolding(crate::specs::Face::face_of))]
 pub fn face_of(s: State) -> CState
     ensures { result ≡ face_of s }
 {
-    let w = s.work;
-    match w {
+    match s.work {
         Work::Idle => faced(s, 0, 0, 0),
         Work::Busy(job, units) => faced_job(s, job, units),
     }
@@ -244,12 +190,12 @@ pub fn state_sound(part: CGeometry, state: CState) -> bool
 {
     let g = part_numbers::part_of(part);
     match state_of(state) {
-        Told::Good(s) => s.sound(g),
-        Told::Bad => false,
+        Some(s) => s.sound(g),
+        None => false,
     }
 }
 
-// A state that is sound on no part.
+// A state that is sound on no part, so that every function refuses it in its own way (`NeverSound`).
 fn no_state() -> State
     ensures { result ≡ no_state }
 {
@@ -269,21 +215,18 @@ fn no_state() -> State
 }
 
 // The state to run: the one that numbers stand for, or else one that is sound on no part.
-pub fn stand_in(x: Told) -> State
+pub fn stand_in(x: Option<State>) -> State
     ensures { result ≡ stand_in x }
 {
-    match x {
-        Told::Good(s) => s,
-        Told::Bad => no_state(),
-    }
+    x.unwrap_or(no_state())
 }
 
 // The numbers of the state that came back; those that stood for no state come back as they were.
-pub fn handed_back(x: Told, c: CState, after: State) -> CState
+pub fn handed_back(x: Option<State>, c: CState, after: State) -> CState
     ensures { result ≡ handed_back x c after }
 {
     match x {
-        Told::Good(_) => face_of(after),
-        Told::Bad => c,
+        Some(_) => face_of(after),
+        None => c,
     }
 }

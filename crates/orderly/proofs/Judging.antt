@@ -14,8 +14,7 @@ use Rattle.part.proofs.Choice.{cond_keep}
 use Rattle.buslog.specs.Log.{Bytes}
 use Rattle.buslog.specs.Read.{found, front, next_of, parse}
 use Rattle.buslog.specs.Write.{over}
-use Rattle.buslog.specs.declared.Next.{Next}
-use Rattle.buslog.specs.declared.Next.TheVariants.{Found, Stop}
+use Rattle.std.specs.Prelude.{Result, Ok, Err}
 use Rattle.buslog.specs.declared.Record.{Record}
 use Rattle.buslog.specs.declared.Why.{Why}
 use Rattle.buslog.proofs.Logs.{parse_ends, parse_found}
@@ -30,8 +29,6 @@ use Rattle.refusals.specs.declared.Refusal.{Refusal}
 use Rattle.refusals.specs.declared.Refusal.TheVariants.{NoRoom}
 use Rattle.walk.specs.Turns.{takes, puts, start_of, behind, answered, Turned, turned, state_after, turn_of}
 use Rattle.walk.specs.declared.Walk.{Walk}
-use Rattle.walk.specs.declared.Went.{Went}
-use Rattle.walk.specs.declared.Went.TheVariants.{On, Off}
 use Rattle.walk.proofs.Turns.{further}
 use Rattle.model.specs.Runs.{fitting, Outcome, did, ran_of, run_of, End, shown}
 use Rattle.model.proofs.Loop.{Going, Seen, going_start, going_next, going_ends, going_full, out_long, byte_found}
@@ -85,12 +82,12 @@ module _ (g : Geometry) (log out₀ : List ℕ) (m₀ : Machine) where
         ∙ ap (λ (b : Bool). record { end = shown whole out₀; orderly = b && idle whole.machine.state }) k)
 
     -- the reading of the log ends, or the next record finds no room
-    judging_ends : (why : Why) → next_of log w.at ≡ Stop why → Told (refusal_of why) w ok m out
+    judging_ends : (why : Why) → next_of log w.at ≡ Err why → Told (refusal_of why) w ok m out
     unfolding next_of fitting
     judging_ends why e =
         stop_with (refusal_of why) (rw (parse_ends (drop w.at log) why (stop_front w.at (front (drop w.at log)) why e))) (going_ends g (unitwise g) log out₀ m₀ w out m h.going why e)
 
-    judging_full : (e : Record) (n : ℕ) → next_of log w.at ≡ Found e n → length out₀ - w.written < takes e → Told NoRoom w ok m out
+    judging_full : (e : Record) (n : ℕ) → next_of log w.at ≡ Ok (e, n) → length out₀ - w.written < takes e → Told NoRoom w ok m out
     unfolding next_of fitting
     judging_full e n q k =
         let f = found_front w.at (front (drop w.at log)) e n q in
@@ -105,7 +102,7 @@ module _ (g : Geometry) (log out₀ : List ℕ) (m₀ : Machine) where
         let less : length out₀ - (w.written + takes e) ≡ length out₀ - w.written - takes e = omega arith in
         rw (parse_found (drop w.at log) e b q, drop-drop (suc b) w.at log, le-ltb (length out₀ - w.written) (takes e) k, less) (sym (and_assoc ok (allowed m.state e) _))
 
-    judging_next : (e : Record) (n : ℕ) → next_of log w.at ≡ Found e n → ByteIn e → takes e ≤ length out₀ - w.written
+    judging_next : (e : Record) (n : ℕ) → next_of log w.at ≡ Ok (e, n) → ByteIn e → takes e ≤ length out₀ - w.written
         → Judging (behind w (step g (unitwise g) m e).state n (takes e)) (ok && allowed m.state e) (over out w.written (puts g m e)) (step g (unitwise g) m e)
     unfolding next_of
     judging_next e n q b k =
@@ -119,19 +116,19 @@ module _ (g : Geometry) (log out₀ : List ℕ) (m₀ : Machine) where
     -- ---- a turn
 
     -- what it leaves: the run stands further on with what stood next judged, or the judgement is that of the whole run
-    abbrev Left : Next → Went → Machine → List ℕ → Type 0
-    Left n (On x) m₁ o = (w.at < x.at) × Judging x (ok && welcome m.state n) o m₁
-    Left n (Off r) m₁ o = Told r w ok m₁ o
+    abbrev Left : Result (Record × ℕ) Why → Result Walk Refusal → Machine → List ℕ → Type 0
+    Left n (Ok x) m₁ o = (w.at < x.at) × Judging x (ok && welcome m.state n) o m₁
+    Left n (Err r) m₁ o = Told r w ok m₁ o
 
-    abbrev LeftBy : Next → Turned → Type 0
+    abbrev LeftBy : Result (Record × ℕ) Why → Turned → Type 0
     LeftBy n t = Left n t.went t.machine t.out
 
-    turn_leaves : Bytes log → (n : Next) → next_of log w.at ≡ n → LeftBy n (turn_of g (unitwise g) w n m out)
+    turn_leaves : Bytes log → (n : Result (Record × ℕ) Why) → next_of log w.at ≡ n → LeftBy n (turn_of g (unitwise g) w n m out)
     unfolding turn_of
-    turn_leaves b (Stop why) q = judging_ends why q
-    turn_leaves b (Found e n) q =
+    turn_leaves b (Err why) q = judging_ends why q
+    turn_leaves b (Ok (e, n)) q =
         let l = out_long g (unitwise g) log out₀ m₀ w out m h.going in
-        cond_keep (LeftBy (Found e n)) (ltb (length out - w.written) (takes e))
+        cond_keep (LeftBy (Ok (e, n))) (ltb (length out - w.written) (takes e))
         (λ k. judging_full e n q (omega (arith, ltb-true (length out - w.written) (takes e) k, l)))
         (λ k. (
           (further log w.at h.going.inside e n q).0,
@@ -139,16 +136,16 @@ module _ (g : Geometry) (log out₀ : List ℕ) (m₀ : Machine) where
         ))
 
     -- the same of what the code has
-    module _ (b : Bytes log) (r : Went) (cells cache counts out₁ : List ℕ) (t : turned r (machine (state_after w r) cells cache counts) out₁ ≡ turn_of g (unitwise g) w (next_of log w.at) m out) where
+    module _ (b : Bytes log) (r : Result Walk Refusal) (cells cache counts out₁ : List ℕ) (t : turned r (machine (state_after w r) cells cache counts) out₁ ≡ turn_of g (unitwise g) w (next_of log w.at) m out) where
       left_as : Left (next_of log w.at) r (machine (state_after w r) cells cache counts) out₁
       left_as = subst⁻¹ (LeftBy (next_of log w.at)) t (turn_leaves b (next_of log w.at) refl)
 
-      pub judging_on : (x : Walk) → r ≡ On x
+      pub judging_on : (x : Walk) → r ≡ Ok x
           → (w.at < x.at) × Judging x (ok && welcome m.state (next_of log w.at)) out₁ (machine x.state cells cache counts)
-      judging_on x q = subst (λ (y : Went). Left (next_of log w.at) y (machine (state_after w y) cells cache counts) out₁) q left_as
+      judging_on x q = subst (λ (y : Result Walk Refusal). Left (next_of log w.at) y (machine (state_after w y) cells cache counts) out₁) q left_as
 
-      pub judging_off : (why : Refusal) → r ≡ Off why → judged (closed (answered why w) ok) cells cache counts out₁ ≡ judgement_of handed
-      judging_off why q = subst (λ (y : Went). Left (next_of log w.at) y (machine (state_after w y) cells cache counts) out₁) q left_as
+      pub judging_off : (why : Refusal) → r ≡ Err why → judged (closed (answered why w) ok) cells cache counts out₁ ≡ judgement_of handed
+      judging_off why q = subst (λ (y : Result Walk Refusal). Left (next_of log w.at) y (machine (state_after w y) cells cache counts) out₁) q left_as
 
   -- the checks refuse: no record is judged
   pub judged_none : (k : Refusal) → k ≡ checked_as g m₀ → passed k ≡ false → Told k (start_of m₀.state) (starts m₀.state) m₀ out₀

@@ -1,14 +1,14 @@
 -- A log judged: what a run of it returns and leaves, and whether the suppositions of demand 3 were met.
-use Rattle.std.specs.Prelude.{Bool, true, ◌&&◌, List, ◌≡◌, ℕ}
+use Rattle.std.specs.Prelude.{Bool, true, ◌&&◌, List, ◌≡◌, ℕ, Result, Ok, Err}
 use Rattle.model.specs.Runs.{End, seen}
 use Rattle.buslog.specs.Log.{Bytes}
-use Rattle.buslog.specs.declared.Next.{Next}
-use Rattle.buslog.specs.declared.Next.TheVariants.{Found, Stop}
 use Rattle.device.specs.declared.State.{State}
 use Rattle.walk.specs.declared.Answer.{Answer}
 use Rattle.whole.specs.Orderly.{idle, allowed}
 use Rattle.whole.specs.Demand.{Given, end_of, supposed, SameEnd}
 use Rattle.orderly.specs.declared.Judged.{Judged}
+use Rattle.buslog.specs.declared.Record.{Record}
+use Rattle.buslog.specs.declared.Why.{Why}
 
 -- the end of a run, and the judgement on it
 pub record Judgement : Type 0 where
@@ -28,9 +28,9 @@ abbrev pub closed : Answer → Bool → Judged
 closed a ok = record { answer = a; orderly = ok && idle a.state }
 
 -- what stands next in the log may come: a record that is allowed, or none
-abbrev pub welcome : State → Next → Bool
-welcome s (Found e place) = allowed s e
-welcome s (Stop why) = true
+abbrev pub welcome : State → Result (Record × ℕ) Why → Bool
+welcome s (Ok (e, place)) = allowed s e
+welcome s (Err why) = true
 
 -- what a porting team may rely on: `post` is the `ensures` of `judge`, of what was handed in, what came back and the verdict. Where it
 -- says yes, the end is that of the whole run

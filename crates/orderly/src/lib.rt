@@ -1,17 +1,18 @@
 // A log run and judged: the suppositions of demand 3, asked of each record as it comes, of the start and of the end.
+// Buffers are lent one by one: `walk` says why.
 #![tactic(auto)]
 
-ghost use Rattle.std.specs.Prelude.{◌≡◌};
+ghost use Rattle.std.specs.Prelude.{◌&&◌, ◌≡◌};
 ghost use Rattle.part.specs.Part.{Sound};
 ghost use Rattle.device.specs.Machine.{machine};
 ghost use Rattle.kept.specs.Kept.{SoundMachine};
 ghost use Rattle.whole.specs.Demand.{given};
 ghost use Rattle.orderly.specs.Judge.{judged, judgement_of, closed, welcome};
 
-use buslog::Next;
+use buslog::{Record, Why};
 use device::State;
 use part::Geometry;
-use walk::{Answer, Walk, Went};
+use walk::{Answer, Walk};
 
 // A log judged: the answer of its run, and whether the suppositions of demand 3 were met.
 #[derive(Clone, Copy)]
@@ -24,25 +25,32 @@ pub struct Judged {
 fn closed(answer: Answer, ok: bool) -> Judged
     ensures { result ≡ closed answer ok }
 {
-    let s = answer.state;
-    let rests = suppositions::idle(s);
+    let rests = suppositions::idle(answer.state);
     Judged {
-        answer: answer,
-        orderly: suppositions::both(ok, rests),
+        answer,
+        orderly: ok && rests,
     }
 }
 
 // Whether demand 3 lets what stands next in the log come in this state; where no record stands, there is nothing to ask.
-fn welcome(s: State, next: Next) -> bool
+fn welcome(s: State, next: Result<(Record, usize), Why>) -> bool
     ensures { result ≡ welcome s next }
 {
     match next {
-        Next::Found(e, _) => suppositions::allowed(s, e),
-        Next::Stop(_) => true,
+        Ok((e, _)) => suppositions::allowed(s, e),
+        Err(_) => true,
     }
 }
 
+// Whether a log that was orderly so far is so with what stands next.
+fn stays(ok: bool, s: State, next: Result<(Record, usize), Why>) -> bool
+    ensures { result ≡ ok && welcome s next }
+{
+    ok && welcome(s, next)
+}
+
 // The records of a log, one after another, each judged as it comes.
+// No `for`: where the next record stands is known only when this one has been read.
 fn go(
     g: Geometry,
     state: State,
@@ -59,16 +67,13 @@ fn go(
     let mut w = Walk::start(state);
     let mut ok = suppositions::starts(state);
     loop {
-        let s = w.state;
-        let so = suppositions::both(ok, welcome(s, buslog::next_at(log, w.at)));
+        let so = stays(ok, w.state, buslog::next_at(log, w.at));
         match walk::onward(g, w, log, cells, cache, counts, out) {
-            Went::On(next) => {
+            Ok(next) => {
                 w = next;
                 ok = so;
             }
-            Went::Off(r) => {
-                return closed(w.so_far(r), ok);
-            }
+            Err(r) => return closed(w.so_far(r), ok),
         }
     }
 }
@@ -86,9 +91,8 @@ pub fn judge(
     ensures { judged result cells.new cache.new counts.new out.new
         ≡ judgement_of (given g state log.now cells.old cache.old counts.old out.old) }
 {
-    let k = refusals::check(g, state, cells.len(), cache.len(), counts.len());
-    if !refusals::passes(k) {
-        return closed(Walk::start(state).so_far(k), suppositions::starts(state));
+    if let Err(r) = refusals::check(g, state, cells.len(), cache.len(), counts.len()) {
+        return closed(Walk::start(state).so_far(r), suppositions::starts(state));
     }
     go(g, state, log, cells, cache, counts, out)
 }

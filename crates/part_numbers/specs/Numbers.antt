@@ -1,21 +1,23 @@
 -- The part in plain numbers, as C has them: what they stand for, the numbers of a part, and the lengths that the lent memory must have.
-use Rattle.std.specs.Prelude.{ℕ, ◌*◌, eqb, leb, if◌then◌else◌}
+use Rattle.std.specs.Prelude.{ℕ, ◌*◌, eqb, if◌then◌else◌, Option, Some, None}
 use Rattle.part.specs.Part.{page, rows, sound_part, no_part}
 use Rattle.part.specs.declared.Geometry.{Geometry}
 use Rattle.part.specs.declared.Stepping.{Stepping}
 use Rattle.part.specs.declared.Stepping.TheVariants.{First, Second}
 use Rattle.part_numbers.specs.declared.CGeometry.{CGeometry}
 
--- the stepping of a number: 0 first, 1 second
-abbrev pub stepping_at : ℕ → Stepping
-stepping_at k = if eqb k 0 then First else Second
+-- the stepping of a number: 0 first, 1 second, and no other number has one
+abbrev pub stepping_at : ℕ → Option Stepping
+stepping_at k = if eqb k 0 then Some First else if eqb k 1 then Some Second else None
+
+-- the geometry with a stepping; with none it is that of no part
+abbrev pub part_as : CGeometry → Option Stepping → Geometry
+part_as g (Some st) = record { main = g.main; spare = g.spare; pages = g.pages; blocks = g.blocks; id0 = g.id0; id1 = g.id1; stepping = st }
+part_as g None = no_part
 
 -- the geometry that the numbers stand for; a stepping above 1 is that of no part
 abbrev pub part_of : CGeometry → Geometry
-part_of g =
-    if leb g.stepping 1
-    then record { main = g.main; spare = g.spare; pages = g.pages; blocks = g.blocks; id0 = g.id0; id1 = g.id1; stepping = stepping_at g.stepping }
-    else no_part
+part_of g = part_as g (stepping_at g.stepping)
 
 -- the number of a stepping
 abbrev pub stepping_number : Stepping → ℕ

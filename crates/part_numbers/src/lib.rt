@@ -20,18 +20,18 @@ pub struct CGeometry {
     pub stepping: u8,
 }
 
-// The stepping of a number.
-fn stepping_at(k: u8) -> Stepping
+// The stepping of a number, if it has one.
+fn stepping_at(k: u8) -> Option<Stepping>
     ensures { result ≡ stepping_at k }
 {
-    if k == 0 {
-        Stepping::First
-    } else {
-        Stepping::Second
+    match k {
+        0 => Some(Stepping::First),
+        1 => Some(Stepping::Second),
+        _ => None,
     }
 }
 
-// The number of a stepping.
+// The number of a stepping, in C's struct.
 fn stepping_number(stepping: Stepping) -> u8
     ensures { result ≡ stepping_number stepping }
 {
@@ -41,7 +41,7 @@ fn stepping_number(stepping: Stepping) -> u8
     }
 }
 
-// A part of nothing, which is not sound.
+// A part of nothing, which is not sound, so that every function refuses it in its own way (`NoSuchStepping`).
 fn no_part() -> Geometry
     ensures { result ≡ no_part }
 {
@@ -60,18 +60,17 @@ fn no_part() -> Geometry
 pub fn part_of(g: CGeometry) -> Geometry
     ensures { result ≡ part_of g }
 {
-    if 1 < g.stepping {
-        return no_part();
-    }
-    let stepping = stepping_at(g.stepping);
-    Geometry {
-        main: g.main,
-        spare: g.spare,
-        pages: g.pages,
-        blocks: g.blocks,
-        id0: g.id0,
-        id1: g.id1,
-        stepping,
+    match stepping_at(g.stepping) {
+        Some(stepping) => Geometry {
+            main: g.main,
+            spare: g.spare,
+            pages: g.pages,
+            blocks: g.blocks,
+            id0: g.id0,
+            id1: g.id1,
+            stepping,
+        },
+        None => no_part(),
     }
 }
 
@@ -79,8 +78,6 @@ pub fn part_of(g: CGeometry) -> Geometry
 pub fn face_part(g: Geometry) -> CGeometry
     ensures { result ≡ face_part g }
 {
-    let s = g.stepping;
-    let stepping = stepping_number(s);
     CGeometry {
         main: g.main,
         spare: g.spare,
@@ -88,19 +85,17 @@ pub fn face_part(g: Geometry) -> CGeometry
         blocks: g.blocks,
         id0: g.id0,
         id1: g.id1,
-        stepping,
+        stepping: stepping_number(g.stepping),
     }
 }
 
-// The length that cells must have.
+// The length that cells must have; 0 for an unsound part, as in C. (The three lengths stay apart: each is one choice, and a helper that
+// takes a closure for the length is no shorter.)
 pub fn cells_length(part: CGeometry) -> usize
     ensures { result ≡ cells_length (part_of part) }
 {
     let g = part_of(part);
-    if !g.sound() {
-        return 0;
-    }
-    g.rows() * g.page()
+    if g.sound() { g.rows() * g.page() } else { 0 }
 }
 
 // The length that the cache register must have.
@@ -108,10 +103,7 @@ pub fn cache_length(part: CGeometry) -> usize
     ensures { result ≡ cache_length (part_of part) }
 {
     let g = part_of(part);
-    if !g.sound() {
-        return 0;
-    }
-    g.page()
+    if g.sound() { g.page() } else { 0 }
 }
 
 // The length that page counts must have.
@@ -119,8 +111,5 @@ pub fn counts_length(part: CGeometry) -> usize
     ensures { result ≡ counts_length (part_of part) }
 {
     let g = part_of(part);
-    if !g.sound() {
-        return 0;
-    }
-    g.rows()
+    if g.sound() { g.rows() } else { 0 }
 }

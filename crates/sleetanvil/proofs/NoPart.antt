@@ -1,9 +1,11 @@
 -- A part that is not sound is turned away, whatever else is handed in; and so is a stepping above 1.
+use Rattle.std.specs.Prelude.{Option, Some, None}
 use mathlib.Core.Bool.{false}
 use mathlib.Core.List.{List, []}
 use mathlib.Core.Path.{◌≡◌, refl, sym, ◌∙◌, ap}
 use Prim.Native.Nat.{ℕ}
 use lib.ListN.{length}
+use Rattle.std.specs.Prelude.{Err}
 use Rattle.part.specs.Part.{sound_part}
 use Rattle.part.specs.declared.Geometry.{Geometry}
 use Rattle.buslog.specs.Log.{bytes_of}
@@ -16,10 +18,8 @@ use Rattle.part_numbers.specs.declared.CGeometry.{CGeometry}
 use Rattle.part_numbers.proofs.ThereAndBack.{no_such_stepping}
 use Rattle.face.specs.Face.{state_of, face_of, no_state}
 use Rattle.face.specs.declared.CState.{CState}
-use Rattle.face.specs.declared.Told.{Told}
-use Rattle.face.specs.declared.Told.TheVariants.{Good, Bad}
 use Rattle.face.proofs.ThereAndBack.{face_back}
-use Rattle.refusals.specs.Refusals.{check_of}
+use Rattle.refusals.specs.Refusals.{line_of, check_of}
 use Rattle.refusals.specs.declared.Refusal.TheVariants.{BadPart}
 use Rattle.model.specs.Runs.{End}
 use Rattle.model.proofs.Single.{run_refused}
@@ -28,7 +28,7 @@ use Rattle.sleetanvil.specs.Runs.{face_seen, face_nothing, shown_as, ran_told, f
 use Rattle.sleetanvil.proofs.Works.{work_record}
 
 -- the first check refuses it
-part_stops : (g : Geometry) (s : State) (cells cache counts : ℕ) → sound_part g ≡ false → check_of g s cells cache counts ≡ BadPart
+part_stops : (g : Geometry) (s : State) (cells cache counts : ℕ) → sound_part g ≡ false → check_of g s cells cache counts ≡ Err BadPart
 unfolding check_of
 part_stops g s cells cache counts e = rw e
 
@@ -37,21 +37,21 @@ module _ (g : CGeometry) (c : CState) (log cells cache counts out : List ℕ) wh
   unfolding face_ran
   ran_nothing e = go (state_of c) refl
     where
-      go : (x : Told) → state_of c ≡ x → ran_told g c x log cells cache counts out ≡ face_seen (face_nothing 1 c) cells cache counts out
-      go (Good s) q =
+      go : (x : Option State) → state_of c ≡ x → ran_told g c x log cells cache counts out ≡ face_seen (face_nothing 1 c) cells cache counts out
+      go (Some s) q =
           ap (λ (e : End). shown_as (face_of e.answer.state) e)
-          (sym (run_refused (part_of g) (unitwise (part_of g)) out (machine s cells cache counts) (length out) log BadPart (sym (part_stops (part_of g) s (length cells) (length cache) (length counts) e)) refl))
+          (sym (run_refused (part_of g) (unitwise (part_of g)) out (machine s cells cache counts) (length out) log BadPart (sym (ap line_of (part_stops (part_of g) s (length cells) (length cache) (length counts) e))) refl))
           ∙ ap (λ (d : CState). face_seen (face_nothing 1 d) cells cache counts out) (face_back c s q)
-      go Bad q = rw (part_stops (part_of g) no_state (length cells) (length cache) (length counts) e)
+      go None q = rw (part_stops (part_of g) no_state (length cells) (length cache) (length counts) e)
 
   -- a run that is judged ends as the run does
   judged_end : (judged_of g c log cells cache counts out).end ≡ face_ran g c log cells cache counts out
   unfolding face_ran judged_of
   judged_end = go (state_of c)
     where
-      go : (x : Told) → (judged_told g c x log cells cache counts out).end ≡ ran_told g c x log cells cache counts out
-      go (Good s) = refl
-      go Bad = refl
+      go : (x : Option State) → (judged_told g c x log cells cache counts out).end ≡ ran_told g c x log cells cache counts out
+      go (Some s) = refl
+      go None = refl
 
 pub part_refused : PartRefused
 part_refused g e c cells cache counts = (

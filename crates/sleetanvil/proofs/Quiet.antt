@@ -1,4 +1,6 @@
 -- An event that is no shift takes no output room, so that it is the same whatever output is lent.
+use Rattle.std.specs.Prelude.{Option, Some, None}
+use Rattle.device.specs.declared.State.{State}
 use mathlib.Core.Bool.{Bool, true, false}
 use mathlib.Core.List.{[]}
 use mathlib.Core.Path.{◌≡◌, refl, sym, ap, ◌∙◌}
@@ -13,8 +15,6 @@ use Rattle.device.specs.Machine.{Machine, machine}
 use Rattle.device.specs.Work.{Array, unitwise}
 use Rattle.part_numbers.specs.Numbers.{part_of}
 use Rattle.face.specs.Face.{state_of, face_of}
-use Rattle.face.specs.declared.Told.{Told}
-use Rattle.face.specs.declared.Told.TheVariants.{Good, Bad}
 use Rattle.model.specs.Runs as model
 use Rattle.walk.specs.Turns.{takes}
 use Rattle.model.specs.Runs.{Outcome, run_of, shown}
@@ -38,6 +38,6 @@ pub any_output : AnyOutput
 unfolding face_ran
 any_output g c e cells cache counts out free = go (state_of c)
   where
-    go : (x : Told) → unheard (ran_told g c x (bytes_of e) cells cache counts out) ≡ unheard (ran_told g c x (bytes_of e) cells cache counts [])
-    go (Good s) = ap (λ (o : Outcome). unheard (shown_as (face_of o.machine.state) (shown o out))) (any_room (part_of g) (unitwise (part_of g)) (length out) e (machine s cells cache counts) free)
-    go Bad = refl
+    go : (x : Option State) → unheard (ran_told g c x (bytes_of e) cells cache counts out) ≡ unheard (ran_told g c x (bytes_of e) cells cache counts [])
+    go (Some s) = ap (λ (o : Outcome). unheard (shown_as (face_of o.machine.state) (shown o out))) (any_room (part_of g) (unitwise (part_of g)) (length out) e (machine s cells cache counts) free)
+    go None = refl

@@ -1,4 +1,6 @@
 -- Work is the run of its record, also of numbers that stand for no state.
+use Rattle.std.specs.Prelude.{Option, Some, None}
+use Rattle.device.specs.declared.State.{State}
 use mathlib.Core.List.{[]}
 use mathlib.Core.Path.{◌≡◌, refl, sym, ap}
 use Rattle.buslog.specs.Log.{bytes_of}
@@ -6,8 +8,6 @@ use Rattle.buslog.specs.declared.Record.TheVariants.{Units}
 use Rattle.device.specs.Machine.{machine}
 use Rattle.part_numbers.specs.Numbers.{part_of}
 use Rattle.face.specs.Face.{state_of, face_of}
-use Rattle.face.specs.declared.Told.{Told}
-use Rattle.face.specs.declared.Told.TheVariants.{Good, Bad}
 use Rattle.model.specs.Runs.{Outcome, shown}
 use Rattle.beside.proofs.Works.{work_one}
 use Rattle.sleetanvil.specs.Promises.{WorkRecord}
@@ -17,6 +17,6 @@ pub work_record : WorkRecord
 unfolding worked_of face_ran
 work_record g c n cells cache counts = go (state_of c)
   where
-    go : (x : Told) → worked_told g c x n cells cache counts ≡ unheard (ran_told g c x (bytes_of (Units n)) cells cache counts [])
-    go (Good s) = ap (λ (o : Outcome). unheard (shown_as (face_of o.machine.state) (shown o []))) (sym (work_one (part_of g) (machine s cells cache counts) 0 n))
-    go Bad = refl
+    go : (x : Option State) → worked_told g c x n cells cache counts ≡ unheard (ran_told g c x (bytes_of (Units n)) cells cache counts [])
+    go (Some s) = ap (λ (o : Outcome). unheard (shown_as (face_of o.machine.state) (shown o []))) (sym (work_one (part_of g) (machine s cells cache counts) 0 n))
+    go None = refl

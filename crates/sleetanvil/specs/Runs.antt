@@ -1,5 +1,6 @@
 -- A run, one event, bytes exchanged, work, and a run judged, with the part and the state in plain numbers.
-use Rattle.std.specs.Prelude.{Bool, false, List, [], ℕ, length}
+use Rattle.std.specs.Prelude.{Bool, false, List, [], ℕ, length, Option, Some, None}
+use Rattle.device.specs.declared.State.{State}
 use Rattle.part.specs.declared.Geometry.{Geometry}
 use Rattle.buslog.specs.Log.{written}
 use Rattle.buslog.specs.declared.Record.{Record}
@@ -11,9 +12,7 @@ use Rattle.part_numbers.specs.declared.CGeometry.{CGeometry}
 use Rattle.face.specs.declared.CState.{CState}
 use Rattle.face.specs.declared.CAnswer.{CAnswer}
 use Rattle.face.specs.declared.CJudged.{CJudged}
-use Rattle.face.specs.declared.Told.{Told}
-use Rattle.face.specs.declared.Told.TheVariants.{Good, Bad}
-use Rattle.refusals.specs.Refusals.{number_of, check_of}
+use Rattle.refusals.specs.Refusals.{number_of, check_of, line_of}
 use Rattle.model.specs.Runs.{End, run_of, shown}
 use Rattle.walk.specs.declared.Answer.{Answer}
 use Rattle.beside.specs.Beside.{work_of}
@@ -46,7 +45,7 @@ shown_as c e = face_seen (answer_of c e.answer) e.cells e.cache e.counts e.out
 
 -- 1 to 4 are checked as for any state, in their order, and then it is 5
 abbrev pub check_bad : Geometry → ℕ → ℕ → ℕ → ℕ
-check_bad g cells cache counts = number_of (check_of g no_state cells cache counts)
+check_bad g cells cache counts = number_of (line_of (check_of g no_state cells cache counts))
 
 -- nothing done, and the state's numbers given back as they came
 abbrev pub face_nothing : ℕ → CState → CAnswer
@@ -55,11 +54,11 @@ face_nothing refusal c = record { state = c; records = 0; used = 0; written = 0;
 -- ---- a run
 
 -- a state goes through the model; where there is none, nothing is done
-abbrev pub ran_told : CGeometry → CState → Told → List ℕ → List ℕ → List ℕ → List ℕ → List ℕ → CEnd
-ran_told g c (Good s) log cells cache counts out =
+abbrev pub ran_told : CGeometry → CState → Option State → List ℕ → List ℕ → List ℕ → List ℕ → List ℕ → CEnd
+ran_told g c (Some s) log cells cache counts out =
     let e = shown (run_of (part_of g) (unitwise (part_of g)) (length out) log (machine s cells cache counts)) out in
     shown_as (face_of e.answer.state) e
-ran_told g c Bad log cells cache counts out =
+ran_told g c None log cells cache counts out =
     face_seen (face_nothing (check_bad (part_of g) (length cells) (length cache) (length counts)) c) cells cache counts out
 
 -- a run of a log, from the part and the state that the numbers stand for
@@ -106,11 +105,11 @@ exchanged_of g c es cells cache counts out = face_unlogged (face_ran g c (writte
 -- ---- work of any number of units
 
 -- a state works; where there is none, nothing is done
-abbrev pub worked_told : CGeometry → CState → Told → ℕ → List ℕ → List ℕ → List ℕ → CQuiet
-worked_told g c (Good s) n cells cache counts =
+abbrev pub worked_told : CGeometry → CState → Option State → ℕ → List ℕ → List ℕ → List ℕ → CQuiet
+worked_told g c (Some s) n cells cache counts =
     let e = shown (work_of (part_of g) (unitwise (part_of g)) n (machine s cells cache counts)) [] in
     unheard (shown_as (face_of e.answer.state) e)
-worked_told g c Bad n cells cache counts = quiet (face_nothing (check_bad (part_of g) (length cells) (length cache) (length counts)) c) cells cache counts
+worked_told g c None n cells cache counts = quiet (face_nothing (check_bad (part_of g) (length cells) (length cache) (length counts)) c) cells cache counts
 
 -- from the part and the state that the numbers stand for
 unfoldable pub worked_of : CGeometry → CState → ℕ → List ℕ → List ℕ → List ℕ → CQuiet
@@ -132,17 +131,17 @@ abbrev pub judged_as : CState → Judgement → CJudgement
 judged_as c j = record { end = shown_as c j.end; orderly = j.orderly }
 
 -- a state's run is judged; where there is no state, nothing is done, and that is not orderly
-abbrev pub judged_told : CGeometry → CState → Told → List ℕ → List ℕ → List ℕ → List ℕ → List ℕ → CJudgement
-judged_told g c (Good s) log cells cache counts out =
+abbrev pub judged_told : CGeometry → CState → Option State → List ℕ → List ℕ → List ℕ → List ℕ → List ℕ → CJudgement
+judged_told g c (Some s) log cells cache counts out =
     let j = judgement_of (given (part_of g) s log cells cache counts out) in
     judged_as (face_of j.end.answer.state) j
-judged_told g c Bad log cells cache counts out = record { end = ran_told g c Bad log cells cache counts out; orderly = false }
+judged_told g c None log cells cache counts out = record { end = ran_told g c None log cells cache counts out; orderly = false }
 
 -- a run of a log, judged
 unfoldable pub judged_of : CGeometry → CState → List ℕ → List ℕ → List ℕ → List ℕ → List ℕ → CJudgement
 judged_of g c log cells cache counts out = judged_told g c (state_of c) log cells cache counts out
 
 -- the code judges the run of a state that stands in for none, and puts the test right
-abbrev pub orderly_of : Told → Bool → Bool
-orderly_of (Good s) ok = ok
-orderly_of Bad ok = false
+abbrev pub orderly_of : Option State → Bool → Bool
+orderly_of (Some s) ok = ok
+orderly_of None ok = false

@@ -112,14 +112,6 @@ pub record Roomy (log : List ℕ) (at written : ℕ) (out : List ℕ) (n : ℕ) 
   pub before : written ≤ length out
   pub most : n ≡ min ((length log - at) / 2) (length out - written)
 
--- and no more
-pub none_left : (log : List ℕ) (at written : ℕ) (out : List ℕ) (n i : ℕ) → Roomy log at written out n → n ≤ i → Follows log at written out i → ⊥
-none_left log at written out n i r h f = omega (arith, r.inside, r.before, r.most, f.0.inside, f.1)
-
--- what stands next is no shift
-pub no_shift_lem : (log : List ℕ) (at written : ℕ) (out : List ℕ) (i x : ℕ) → x ≡ get_or log (at + 2 * i) 0 → (x ≡ 2 → ⊥) → Follows log at written out i → ⊥
-no_shift_lem log at written out i x e h f = h (e ∙ f.0.kind)
-
 -- every part
 abbrev pub Any : Geometry → Type 0
 Any g = T true

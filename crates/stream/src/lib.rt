@@ -1,13 +1,16 @@
 // A stream of shifts: once the fifth byte of a transfer has come, only the next column moves on, and data is read or loaded. Document 01,
 // "Instructions".
+// A kind in the log is compared with 2, a shift's, as it stands: asking the decoder for each record is what these loops spare. What they ask
+// for is said of the lent log and output, and is no type.
 #![tactic(auto)]
 
 ghost use Rattle.std.specs.Prelude.{true, ◌≡◌, ◌/◌, ◌≤◌, ◌<◌, min, length};
 ghost use Rattle.columns.specs.Columns.{next_read};
 ghost use Rattle.transfer.specs.Transfer.{is};
 ghost use Rattle.device.specs.Machine.{Machine, on_cache};
-ghost use Rattle.stream.specs.Streams.{Past, InPage, in_page, loading, streams, at_column, Shifted, Follows, no_shift, Streamed};
+ghost use Rattle.stream.specs.Streams.{Past, InPage, in_page, loading, streams, at_column, Shifted, Follows, Streamed};
 
+use codes::Instruction;
 use device::State;
 use part::{Column, Geometry};
 use transfer::{Bus, Transfer};
@@ -23,31 +26,19 @@ pub struct Stream {
 pub fn streams(x: Bus) -> bool
     ensures { result ≡ streams x }
 {
-    if !x.heard() {
-        return false;
-    }
-    let t = x.transfer;
-    if t.count != 5 {
-        return false;
-    }
-    if t.is(0x03) {
-        return true;
-    }
-    if t.is(0x02) {
-        return true;
-    }
-    t.is(0x84)
+    x.heard()
+        && x.transfer.count == 5
+        && matches!(
+            x.transfer.instruction,
+            Instruction::ReadCache | Instruction::Load | Instruction::LoadRandom
+        )
 }
 
 // The most shifts that the bytes left of the log and the room left for output allow.
 fn most(bytes: usize, room: usize) -> usize
     ensures { result ≡ min (bytes / 2) room }
 {
-    let n = bytes / 2;
-    if n < room {
-        return n;
-    }
-    room
+    (bytes / 2).min(room)
 }
 
 // The state with another next column.
@@ -70,13 +61,7 @@ fn in_page(g: Geometry, cache: &[u8], c: Column) -> bool
     ensures { result ≡ in_page g cache.now c }
 {
     let p = g.page();
-    if cache.len() != p {
-        return false;
-    }
-    if 4096 < p {
-        return false;
-    }
-    part::wide_short(c.0) < p
+    cache.len() == p && p <= 4096 && usize::from(c.0) < p
 }
 
 // The next column of a read in the page.
@@ -84,7 +69,7 @@ fn next_in_page(page: usize, c: Column) -> Column
     requires { (c.0 < page) × (page ≤ 4096) }
     ensures { result ≡ next_read page c }
 {
-    if part::wide_short(c.0) + 1 == page {
+    if usize::from(c.0) + 1 == page {
         return Column(0);
     }
     Column(c.0 + 1)
@@ -105,24 +90,23 @@ fn reads_round(
 {
     let n = most(log.len() - at, out.len() - written);
     let mut c = s.bus.transfer.column;
-    let mut k = 0;
-    while k < n {
+    for k in 0..n {
         if log[at + 2 * k] != 2 {
             return Stream {
                 state: at_column(c, s),
                 count: k,
             };
         }
-        out[written + k] = cache[part::wide_short(c.0)];
+        out[written + k] = cache[usize::from(c.0)];
         c = next_in_page(cache.len(), c);
-        k += 1;
     }
     Stream {
         state: at_column(c, s),
-        count: k,
+        count: n,
     }
 }
 
+// Kept beside `reads_round`: one loop for both was measured slower by 8 in 100 (docs/BENCHMARK.md).
 // The same from any column, with any cache register.
 fn reads_on(
     g: Geometry,
@@ -139,8 +123,7 @@ fn reads_on(
     let n = most(log.len() - at, out.len() - written);
     let page = g.page();
     let mut c = s.bus.transfer.column;
-    let mut i = 0;
-    while i < n {
+    for i in 0..n {
         if log[at + 2 * i] != 2 {
             return Stream {
                 state: at_column(c, s),
@@ -149,11 +132,10 @@ fn reads_on(
         }
         out[written + i] = columns::byte_at(cache, c);
         c = columns::next_read(page, c);
-        i += 1;
     }
     Stream {
         state: at_column(c, s),
-        count: i,
+        count: n,
     }
 }
 
@@ -170,8 +152,7 @@ fn reads(
     requires { (Past s.bus) × (is s.bus.transfer 0x03 ≡ true) × (at ≤ length log.now) × (written ≤ length out.old) }
     ensures { (((m : Machine) → Shifted g log.now at written (on_cache s cache.now m) out.old result.count (on_cache result.state cache.now m) out.new)) × (Follows log.now at written out.old result.count → ⊥) }
 {
-    let t = s.bus.transfer;
-    if in_page(g, cache, t.column) {
+    if in_page(g, cache, s.bus.transfer.column) {
         return reads_round(g, s, log, at, cache, out, written);
     }
     reads_on(g, s, log, at, cache, out, written)
@@ -192,8 +173,7 @@ fn loads(
 {
     let n = most(log.len() - at, out.len() - written);
     let mut c = s.bus.transfer.column;
-    let mut i = 0;
-    while i < n {
+    for i in 0..n {
         let place = at + 2 * i;
         if log[place] != 2 {
             return Stream {
@@ -204,19 +184,11 @@ fn loads(
         columns::store_at(cache, c, log[place + 1]);
         out[written + i] = 0xFF;
         c = columns::next_column(c);
-        i += 1;
     }
     Stream {
         state: at_column(c, s),
-        count: i,
+        count: n,
     }
-}
-
-// No shift.
-fn none(s: State) -> Stream
-    ensures { result ≡ no_shift s }
-{
-    Stream { state: s, count: 0 }
 }
 
 // The shifts from a place of the log on, their output from a place of the output on: all that follow one another where the bus is in a
@@ -232,19 +204,11 @@ pub fn shifts(
 ) -> Stream
     ensures { Streamed g s log.now at written cache.old out.old result cache.new out.new }
 {
-    let x = s.bus;
-    if !streams(x) {
-        return none(s);
+    if !streams(s.bus) || log.len() < at || out.len() < written {
+        return Stream { state: s, count: 0 };
     }
-    if log.len() < at {
-        return none(s);
+    match s.bus.transfer.instruction {
+        Instruction::ReadCache => reads(g, s, log, at, &*cache, out, written),
+        _ => loads(g, s, log, at, cache, out, written),
     }
-    if out.len() < written {
-        return none(s);
-    }
-    let t = x.transfer;
-    if t.is(0x03) {
-        return reads(g, s, log, at, &*cache, out, written);
-    }
-    loads(g, s, log, at, cache, out, written)
 }

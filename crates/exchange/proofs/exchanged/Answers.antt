@@ -1,4 +1,4 @@
--- Bytes one after another: after i of them they are fed; a stream takes the rest. The measure is the bytes left.
+-- Bytes one after another: after i of them they are fed; a stream takes the rest.
 use native.Mathlib.Omega.{arith}
 use Rattle.exchange.proofs.Feeding.{along_bus, along_all}
 use Rattle.exchange.proofs.exchanged.Goals as goal
@@ -8,4 +8,4 @@ loop-i-preserved c =
     along_bus c.loop-i.invariant c.oip-busy.result _ _ _ c.loop-i-test.true c.caches.auto.cache c.oip-busy.ensures c.shifted_in-x.ensures c.caches.ensures c.byte_out.ensures
 
 pub returns : goal.returns
-returns c = along_all c.loop-i.invariant (omega (arith, c.loop-i-test.false))
+returns c = along_all c.loop-i.invariant (omega arith)

@@ -1,4 +1,4 @@
--- `loads`: after i bytes they are fed, the column moved on. The measure is the bytes left.
+-- `loads`: after i bytes they are fed, the column moved on.
 use mathlib.Core.Path.{refl}
 use native.Mathlib.Omega.{arith}
 use lib.ListN.{length-set}
@@ -13,4 +13,4 @@ loop-i-preserved c =
     (load_moves g c.args.s c.requires.0 c.loop-i.c c.loop-i.cache _ c.requires.1))
 
 pub returns : goal.returns
-returns c = rw c.at_column.ensures (along_all (c.loop-i.invariant c.args.g) (omega (arith, c.loop-i-test.false)))
+returns c = rw c.at_column.ensures (along_all (c.loop-i.invariant c.args.g) (omega arith))

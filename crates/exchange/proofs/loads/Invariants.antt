@@ -1,6 +1,4 @@
--- `loads`: after i bytes they are fed, the column moved on. The measure is the bytes left.
-use Prim.Native.Nat.{◌-◌}
-use lib.ListN.{length}
+-- `loads`: after i bytes they are fed, the column moved on.
 use Rattle.part.specs.declared.Geometry.{Geometry}
 use Rattle.stream.specs.Streams.{at_column}
 use Rattle.exchange.proofs.Feeding.{Along}
@@ -8,6 +6,3 @@ use Rattle.exchange.proofs.loads.Given as goal
 
 abbrev pub invariant-loop-i : goal.invariant-loop-i
 invariant-loop-i l = (g : Geometry) → Along g l.s l.initial.cache l.di l.initial.out l.cache l.out (at_column l.c l.s).bus l.i
-
-abbrev pub decreases-loop-i : goal.decreases-loop-i
-decreases-loop-i l = length l.di - l.i

@@ -1,4 +1,4 @@
--- `reads`: after i bytes they are fed, the column moved on. The measure is the bytes left.
+-- `reads`: after i bytes they are fed, the column moved on.
 use mathlib.Core.Path.{refl, sym}
 use native.Mathlib.Omega.{arith}
 use Rattle.stream.proofs.Shifting.{read_moves}
@@ -12,4 +12,4 @@ loop-i-preserved c =
     (rw (← o) (read_moves g c.args.s c.requires.0 c.loop-i.c c.args.cache.now _ c.requires.1)))
 
 pub returns : goal.returns
-returns c = rw c.at_column.ensures (along_all (c.loop-i.invariant c.args.g (sym c.page-page.ensures)) (omega (arith, c.loop-i-test.false)))
+returns c = rw c.at_column.ensures (along_all (c.loop-i.invariant c.args.g (sym c.page-page.ensures)) (omega arith))

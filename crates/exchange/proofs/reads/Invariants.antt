@@ -1,7 +1,5 @@
--- `reads`: after i bytes they are fed, the column moved on. The measure is the bytes left.
+-- `reads`: after i bytes they are fed, the column moved on.
 use mathlib.Core.Path.{◌≡◌}
-use Prim.Native.Nat.{◌-◌}
-use lib.ListN.{length}
 use Rattle.part.specs.Part.{page}
 use Rattle.part.specs.declared.Geometry.{Geometry}
 use Rattle.stream.specs.Streams.{at_column}
@@ -10,6 +8,3 @@ use Rattle.exchange.proofs.reads.Given as goal
 
 abbrev pub invariant-loop-i : goal.invariant-loop-i
 invariant-loop-i l = (g : Geometry) → page g ≡ l.page → Along g l.s l.cache l.di l.initial.out l.cache l.out (at_column l.c l.s).bus l.i
-
-abbrev pub decreases-loop-i : goal.decreases-loop-i
-decreases-loop-i l = length l.di - l.i

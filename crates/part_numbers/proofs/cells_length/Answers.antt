@@ -2,7 +2,6 @@
 use mathlib.Core.Path.{sym, ◌∙◌}
 use native.Mathlib.Omega.{arith}
 use native.Mathlib.Nat.{mul-le-mul}
-use borrow.Author.Tests.{not-false}
 use Rattle.part.specs.Part.{Sound}
 use Rattle.part.proofs.Choice.{true_T}
 use Rattle.part.proofs.Laws.{sound_exactly}
@@ -10,5 +9,5 @@ use Rattle.part_numbers.proofs.cells_length.Goals as goal
 
 pub overflow_mul-result : goal.overflow_mul-result
 overflow_mul-result c =
-    let s : Sound c.part_of-g.result = (sound_exactly c.part_of-g.result).0 (true_T _ (sym c.sound.ensures ∙ not-false c.sound.result c.if-not-sound.false-raw)) in
+    let s : Sound c.part_of-g.result = (sound_exactly c.part_of-g.result).0 (true_T _ (sym c.sound.ensures ∙ c.if-sound.true)) in
     rw (c.rows.ensures, c.page.ensures) (omega (arith, mul-le-mul s.few_rows s.small_page))

@@ -1,4 +1,4 @@
--- `loads`: after i shifts they are done, the column moved on. The measure is the shifts left.
+-- `loads`: after i shifts they are done, the column moved on.
 use native.Mathlib.Omega.{arith}
 use lib.ListN.{length-set}
 use Rattle.stream.proofs.Shifting.{Any, before_first, moved, load_moves}

@@ -1,4 +1,4 @@
--- `reads_on`: after i shifts they are done, the column moved on. The measure is the shifts left.
+-- `reads_on`: after i shifts they are done, the column moved on.
 use mathlib.Core.Path.{refl}
 use native.Mathlib.Omega.{arith}
 use Rattle.stream.proofs.Shifting.{before_first, moved, read_moves}

@@ -1,5 +1,5 @@
--- `reads_on`: after i shifts they are done, the column moved on. The measure is the shifts left.
-use Prim.Native.Nat.{ℕ, ◌-◌}
+-- `reads_on`: after i shifts they are done, the column moved on.
+use Prim.Native.Nat.{ℕ}
 use mathlib.Core.Path.{◌≡◌}
 use Rattle.part.specs.Part.{page}
 use Rattle.part.specs.declared.Geometry.{Geometry}
@@ -11,6 +11,3 @@ On p g = page g ≡ p
 
 abbrev pub invariant-loop-i : goal.invariant-loop-i
 invariant-loop-i l = Streaming (On l.page) l.s l.log l.at l.written l.n l.cache l.initial.out l.cache l.out l.c l.i
-
-abbrev pub decreases-loop-i : goal.decreases-loop-i
-decreases-loop-i l = l.n - l.i

@@ -1,4 +1,4 @@
--- `reads_round`: after k shifts they are done, the column moved on, and still in the page. The measure is the shifts left.
+-- `reads_round`: after k shifts they are done, the column moved on, and still in the page.
 use mathlib.Core.Path.{refl}
 use native.Mathlib.Omega.{arith}
 use Rattle.stream.proofs.Shifting.{before_first, moved, round_moves, next_inside}
@@ -12,7 +12,7 @@ loop-k-init c =
 
 pub loop-k-preserved : goal.loop-k-preserved
 loop-k-preserved c =
-    rw (c.next_in_page-c.ensures, c.wide_short.ensures) (
+    rw (c.next_in_page-c.ensures, c.from.ensures) (
       moved c.loop-k.invariant.0 c.loop-k-test.true (omega arith) refl
           (λ g o. round_moves g c.args.s c.requires.0 c.loop-k.c c.args.cache.now _ c.requires.1 o c.loop-k.invariant.1),
       next_inside _ _ c.loop-k.invariant.1,

@@ -1,5 +1,5 @@
--- `reads_round`: after k shifts they are done, the column moved on, and still in the page. The measure is the shifts left.
-use Prim.Native.Nat.{ℕ, ◌-◌, ◌≤◌, ◌<◌}
+-- `reads_round`: after k shifts they are done, the column moved on, and still in the page.
+use Prim.Native.Nat.{ℕ, ◌≤◌, ◌<◌}
 use mathlib.Core.List.{List}
 use mathlib.Core.Path.{◌≡◌}
 use lib.ListN.{length}
@@ -13,6 +13,3 @@ On cache g = page g ≡ length cache
 
 abbrev pub invariant-loop-k : goal.invariant-loop-k
 invariant-loop-k l = Streaming (On l.cache) l.s l.log l.at l.written l.n l.cache l.initial.out l.cache l.out l.c l.k × (l.c.0 < length l.cache) × (length l.cache ≤ 4096)
-
-abbrev pub decreases-loop-k : goal.decreases-loop-k
-decreases-loop-k l = l.n - l.k

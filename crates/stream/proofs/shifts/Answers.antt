@@ -1,14 +1,13 @@
--- The shifts of a stream: none, or those of a cache read, or else those of a load.
-use mathlib.Core.Path.{sym, ◌∙◌}
-use borrow.Author.Tests.{not-true}
+-- The shifts of a stream: none where there is no stream, or no room for one.
+use Rattle.std.proofs.Common.{rules}
 use Rattle.stream.proofs.Shifting.{still_none, outside_none, full_none}
 use Rattle.stream.proofs.shifts.Goals as goal
+use Rattle.stream.proofs.shifts.Goals.{then-not-streams-via-then-not-streams, then-not-streams-via-else-not-streams+then-log-at, then-not-streams-via-else-not-streams+else-log-at+then-out-written}
 
 pub returns-then-not-streams : goal.returns-then-not-streams
-returns-then-not-streams c = rw c.none.ensures (still_none c.args.g c.args.s c.args.log.now c.args.at c.args.written c.args.cache.now c.args.out.now (sym c.streams.ensures ∙ not-true _ c.if-not-streams.true-raw))
-
-pub returns-then-log-at : goal.returns-then-log-at
-returns-then-log-at c = rw c.none-then-log-at.ensures (outside_none c.args.g c.args.s c.args.log.now c.args.at c.args.written c.args.cache.now c.args.out.now c.if-log-at.true)
-
-pub returns-then-out-written : goal.returns-then-out-written
-returns-then-out-written c = rw c.none-then-out-written.ensures (full_none c.args.g c.args.s c.args.log.now c.args.at c.args.written c.args.cache.now c.args.out.now c.if-out-written.true)
+returns-then-not-streams c =
+    elim c.then-not-streams.branch [
+      | then-not-streams-via-then-not-streams w ↦ still_none c.args.g c.args.s c.args.log.now c.args.at c.args.written c.args.cache.now c.args.out.now (search rules)
+      | then-not-streams-via-else-not-streams+then-log-at w ↦ outside_none c.args.g c.args.s c.args.log.now c.args.at c.args.written c.args.cache.now c.args.out.now w.if-log-at.true
+      | then-not-streams-via-else-not-streams+else-log-at+then-out-written w ↦ full_none c.args.g c.args.s c.args.log.now c.args.at c.args.written c.args.cache.now c.args.out.now w.if-out-written.true
+    ]
