@@ -2,101 +2,102 @@
 // by the independent model; none is copied from what this program printed. The head of the input says how a line is written.
 #![tactic(auto)]
 
-ghost use Rattle.std.specs.Prelude.{◌≤◌};
-
 use card::Stage;
+use digits::Awaited;
 use slot::Answer;
+use std::io;
+use std::io::{Read, Write};
 
-// The standard output.
-const STDOUT_FILENO: i32 = 1;
+// The most bytes of input that are read.
+const INPUT: u64 = 32768;
 
-// What the letters of a line stand for: its name, a comment, or steps.
-#[derive(Clone, Copy)]
+// The bytes of a log, of cells, of protect bits and of output that there are.
+const LOG: usize = 128;
+
+const CELLS: usize = 1040;
+
+const BITS: usize = 136;
+
+const OUT: usize = 128;
+
+// The part of a line that is being read.
+#[derive(Clone, Copy, Debug, PartialEq, Eq)]
 enum Part {
     Name,
     Comment,
     Steps,
 }
 
-// What the steps of a line go by: the stage, and how many bytes are lent of the cells, of the protect bits and of the output.
+// The buffers that are lent.
+#[derive(Clone, Copy, Debug, PartialEq, Eq)]
+enum Buffer {
+    Cells,
+    Bits,
+    Out,
+}
+
+// The steps that have digits, but for a log.
+#[derive(Clone, Copy, Debug, PartialEq, Eq)]
+enum Step {
+    Stage,
+    Command,
+    Lend(Buffer),
+    Show(Buffer),
+    Set(Buffer),
+}
+
+// What is being read: nothing, the digits of a step, or those of a log, with how many have come, and a first that waits for its second.
 #[derive(Clone, Copy)]
-struct Given {
-    stage: Stage,
+enum Reading {
+    Nothing,
+    Digits(Awaited<Step>),
+    Log(usize, Option<u8>),
+}
+
+// How many bytes are lent of the cells, of the protect bits and of the output.
+#[derive(Clone, Copy)]
+struct Lengths {
     cells: usize,
     bits: usize,
     out: usize,
 }
 
-// Where the reading stands: what is given, the part of the line, and the letter whose digits are read, with how many are to come, or have
-// come for a log, and the number so far.
+// Where the reading stands: the buffers, the part of the line, what is being read, and what the steps go by: the stage, and the lengths.
 #[derive(Clone, Copy)]
-struct Reader {
-    given: Given,
+struct Table {
+    log: [u8; LOG],
+    cells: [u8; CELLS],
+    bits: [u8; BITS],
+    out: [u8; OUT],
     part: Part,
-    letter: u8,
-    count: usize,
-    number: u32,
+    reading: Reading,
+    stage: Stage,
+    lent: Lengths,
 }
 
-fn text(s: &[u8]) {
-    io::write_all(STDOUT_FILENO, s);
+// All of the card, and half of the output.
+const LENT: Lengths = Lengths {
+    cells: 1024,
+    bits: 128,
+    out: 64,
+};
+
+// The bytes of a slice in hex. (Each program has its own: no contract says what a writer was given, so `digits` has no such function.)
+fn bytes(to: &mut impl Write, bytes: &[u8]) -> io::Result<()> {
+    for byte in bytes {
+        write!(to, "{byte:02x}")?;
+    }
+    Ok(())
 }
 
-fn hex(s: &[u8], n: usize, digits: usize) {
-    text(s);
-    io::print_hex(STDOUT_FILENO, n as u64, digits);
-}
-
-// The bytes of a slice in hex.
-fn bytes(s: &[u8]) {
-    let mut i = 0;
-    while i < s.len() {
-        hex(b"", s[i] as usize, 2);
-        i += 1;
+// A place and a byte: the byte is set, where there is one.
+fn put(memory: &mut [u8], n: u32) {
+    if let Some(byte) = memory.get_mut((n / 256 % 65536) as usize) {
+        *byte = (n % 256) as u8;
     }
 }
 
-// The lesser of two numbers.
-fn least(a: usize, b: usize) -> usize
-    ensures { (result ≤ a) × (result ≤ b) }
-{
-    if a < b { a } else { b }
-}
-
-// A fresh card, 1,024, 128 and 64 bytes lent, and a part of a line.
-fn fresh(part: Part) -> Reader {
-    let given = Given {
-        stage: Stage::Fresh,
-        cells: 1024,
-        bits: 128,
-        out: 64,
-    };
-    Reader {
-        given,
-        part,
-        letter: 0,
-        count: 0,
-        number: 0,
-    }
-}
-
-// Digits are read for a letter.
-fn awaits(given: Given, letter: u8, count: usize, number: u32) -> Reader {
-    Reader {
-        given,
-        part: Part::Steps,
-        letter,
-        count,
-        number,
-    }
-}
-
-// The steps of a line go on.
-fn goes_on(given: Given) -> Reader {
-    awaits(given, 0, 0, 0)
-}
-
-// A stage by its number, and its number.
+// A stage by its number, and its number, as the lines of the table write it: any number above 2 is the last stage.
 fn stage_of(n: u32) -> Stage {
     match n {
         0 => Stage::Fresh,
@@ -106,8 +107,8 @@ fn stage_of(n: u32) -> Stage {
     }
 }
 
-fn stage_number(s: Stage) -> usize {
-    match s {
+fn stage_number(stage: Stage) -> u8 {
+    match stage {
         Stage::Fresh => 0,
         Stage::Counted => 1,
         Stage::Half => 2,
@@ -115,302 +116,250 @@ fn stage_number(s: Stage) -> usize {
     }
 }
 
-// What is given, at another stage.
-fn at_stage(given: Given, stage: Stage) -> Given {
-    Given {
-        stage,
-        cells: given.cells,
-        bits: given.bits,
-        out: given.out,
+impl Table {
+    // A fresh card, its lengths, and a part of a line.
+    fn begin(&mut self, part: Part) {
+        self.part = part;
+        self.reading = Reading::Nothing;
+        self.stage = Stage::Fresh;
+        self.lent = LENT;
     }
-}
 
-// What is given, with another length.
-fn with_length(given: Given, letter: u8, n: usize) -> Given {
-    let mut g = given;
-    match letter {
-        b'l' => g.cells = n,
-        b'b' => g.bits = n,
-        _ => g.out = n,
+    // The card of each line: all FFh but the code, 12h 34h.
+    fn blank(&mut self) {
+        self.cells = [0xFF; CELLS];
+        self.cells[1022] = 0x12;
+        self.cells[1023] = 0x34;
+        self.bits = [0xFF; BITS];
+        self.out = [0xA5; OUT];
     }
-    g
-}
 
-// An answer, and the bytes written.
-fn says(s: &[u8], a: Answer, out: &[u8]) {
-    let stage = a.stage;
-    let why = a.refusal;
-    hex(s, slot::number(why) as usize, 2);
-    hex(b",", a.records, 2);
-    hex(b",", a.used, 2);
-    hex(b",", a.written, 2);
-    hex(b",", stage_number(stage), 2);
-    text(b"=");
-    let e = least(a.written, out.len());
-    bytes(&out[0..e]);
-}
-
-// `r` and bytes: a log is run.
-fn runs(given: Given, log: &[u8], cells: &mut [u8], bits: &mut [u8], out: &mut [u8]) -> Reader {
-    let c = least(given.cells, cells.len());
-    let b = least(given.bits, bits.len());
-    let o = least(given.out, out.len());
-    let stage = given.stage;
-    let a = slot::run(
-        stage,
-        log,
-        &mut cells[0..c],
-        &mut bits[0..b],
-        &mut out[0..o],
-    );
-    says(b" r", a, out);
-    let then = a.stage;
-    goes_on(at_stage(given, then))
-}
-
-// `c` and three bytes: one command is done.
-fn commands(given: Given, n: u32, cells: &mut [u8], bits: &mut [u8], out: &mut [u8]) -> Reader {
-    let c = least(given.cells, cells.len());
-    let b = least(given.bits, bits.len());
-    let o = least(given.out, out.len());
-    let first = (n / 65536 % 256) as u8;
-    let second = (n / 256 % 256) as u8;
-    let third = (n % 256) as u8;
-    let stage = given.stage;
-    let a = slot::command(
-        stage,
-        first,
-        second,
-        third,
-        &mut cells[0..c],
-        &mut bits[0..b],
-        &mut out[0..o],
-    );
-    says(b" c", a, out);
-    let then = a.stage;
-    goes_on(at_stage(given, then))
-}
-
-// A place and a length: the bytes of a stretch.
-fn shows(s: &[u8], n: u32, memory: &[u8]) {
-    let a = least((n / 65536) as usize, memory.len());
-    let e = a + least((n % 65536) as usize, memory.len() - a);
-    text(s);
-    bytes(&memory[a..e]);
-}
-
-// A byte is set.
-fn sets(place: usize, b: u8, memory: &mut [u8]) {
-    if place < memory.len() {
-        memory[place] = b;
+    // An answer, and the bytes written; the card goes on from its stage.
+    fn say(&mut self, to: &mut impl Write, label: &str, answer: Answer) -> io::Result<()> {
+        self.stage = answer.stage;
+        write!(
+            to,
+            "{label}{:02x},{:02x},{:02x},{:02x},{:02x}=",
+            slot::number(answer.refusal),
+            answer.records,
+            answer.used,
+            answer.written,
+            stage_number(answer.stage)
+        )?;
+        bytes(to, &self.out[..answer.written.min(OUT)])
     }
-}
 
-// A place and a byte: the byte is set.
-fn puts(n: u32, memory: &mut [u8]) {
-    sets((n / 256 % 65536) as usize, (n % 256) as u8, memory);
-}
+    // `r` and bytes: a log is run.
+    fn run(&mut self, to: &mut impl Write, length: usize) -> io::Result<()> {
+        let stage = self.stage;
+        let lent = self.lent;
+        let log = &self.log[..];
+        let cells = &mut self.cells[..];
+        let bits = &mut self.bits[..];
+        let out = &mut self.out[..];
+        let answer = slot::run(
+            stage,
+            &log[..length.min(LOG)],
+            &mut cells[..lent.cells.min(CELLS)],
+            &mut bits[..lent.bits.min(BITS)],
+            &mut out[..lent.out.min(OUT)],
+        );
+        self.say(to, " r", answer)
+    }
 
-// `k`: the checks of the three buffers.
-fn checks(cells: &[u8], bits: &[u8], out: &[u8]) {
-    hex(b" k", crc::check_of(cells) as usize, 4);
-    hex(b",", crc::check_of(bits) as usize, 4);
-    hex(b",", crc::check_of(out) as usize, 4);
-}
+    // `c` and three bytes: one command is done.
+    fn command(&mut self, to: &mut impl Write, n: u32) -> io::Result<()> {
+        let stage = self.stage;
+        let lent = self.lent;
+        let cells = &mut self.cells[..];
+        let bits = &mut self.bits[..];
+        let out = &mut self.out[..];
+        let answer = slot::command(
+            stage,
+            (n / 65536 % 256) as u8,
+            (n / 256 % 256) as u8,
+            (n % 256) as u8,
+            &mut cells[..lent.cells.min(CELLS)],
+            &mut bits[..lent.bits.min(BITS)],
+            &mut out[..lent.out.min(OUT)],
+        );
+        self.say(to, " c", answer)
+    }
 
-// All digits of a letter are there.
-fn acts(
-    given: Given,
-    letter: u8,
-    n: u32,
-    cells: &mut [u8],
-    bits: &mut [u8],
-    out: &mut [u8],
-) -> Reader {
-    match letter {
-        b's' => goes_on(at_stage(given, stage_of(n))),
-        b'c' => commands(given, n, cells, bits, out),
-        b'=' => {
-            shows(b" =", n, cells);
-            goes_on(given)
+    // A buffer, to be looked at, and to be changed.
+    fn buffer(&self, buffer: Buffer) -> &[u8] {
+        match buffer {
+            Buffer::Cells => &self.cells,
+            Buffer::Bits => &self.bits,
+            Buffer::Out => &self.out,
         }
-        b'@' => {
-            shows(b" @", n, bits);
-            goes_on(given)
+    }
+
+    // A place and a byte of a buffer: the byte is set.
+    fn set(&mut self, buffer: Buffer, n: u32) {
+        match buffer {
+            Buffer::Cells => put(&mut self.cells, n),
+            Buffer::Bits => put(&mut self.bits, n),
+            Buffer::Out => put(&mut self.out, n),
         }
-        b'!' => {
-            puts(n, cells);
-            goes_on(given)
+    }
+
+    // A place and a length: the bytes of a stretch.
+    fn show(&self, to: &mut impl Write, label: &str, buffer: Buffer, n: u32) -> io::Result<()> {
+        let memory = self.buffer(buffer);
+        let from = ((n / 65536) as usize).min(memory.len());
+        let upto = from + ((n % 65536) as usize).min(memory.len() - from);
+        write!(to, "{label}")?;
+        bytes(to, &memory[from..upto])
+    }
+
+    // `k`: the checks of the three buffers.
+    fn check(&self, to: &mut impl Write) -> io::Result<()> {
+        let cells = crc::check_of(&self.cells);
+        let bits = crc::check_of(&self.bits);
+        let out = crc::check_of(&self.out);
+        write!(to, " k{cells:04x},{bits:04x},{out:04x}")
+    }
+
+    // Other bytes are lent of a buffer.
+    fn lend(&mut self, buffer: Buffer, n: usize) {
+        match buffer {
+            Buffer::Cells => self.lent.cells = n,
+            Buffer::Bits => self.lent.bits = n,
+            Buffer::Out => self.lent.out = n,
         }
-        b'~' => {
-            puts(n, bits);
-            goes_on(given)
+    }
+
+    // All digits of a step are there.
+    fn act(&mut self, to: &mut impl Write, step: Step, n: u32) -> io::Result<()> {
+        self.reading = Reading::Nothing;
+        match step {
+            Step::Stage => self.stage = stage_of(n),
+            Step::Command => self.command(to, n)?,
+            Step::Lend(buffer) => self.lend(buffer, n as usize),
+            Step::Show(buffer) => {
+                let label = if buffer == Buffer::Bits { " @" } else { " =" };
+                self.show(to, label, buffer, n)?;
+            }
+            Step::Set(buffer) => self.set(buffer, n),
         }
-        _ => goes_on(with_length(given, letter, n as usize)),
+        Ok(())
     }
-}
 
-// A digit of a log: every second one is the end of a byte.
-fn logs(r: Reader, d: u8, log: &mut [u8]) -> Reader {
-    let given = r.given;
-    let n = r.number % 16 * 16 + (d as u32);
-    let digits = r.count % 1024 + 1;
-    if digits % 2 == 1 {
-        return awaits(given, b'r', digits, n);
-    }
-    sets(digits / 2 - 1, (n % 256) as u8, log);
-    awaits(given, b'r', digits, n)
-}
-
-// A digit, where one is read for; all else is passed over.
-fn takes(
-    r: Reader,
-    d: u8,
-    log: &mut [u8],
-    cells: &mut [u8],
-    bits: &mut [u8],
-    out: &mut [u8],
-) -> Reader {
-    let given = r.given;
-    if r.letter == b'r' {
-        return logs(r, d, log);
-    }
-    if r.count == 0 {
-        return r;
-    }
-    let n = r.number % 268435456 * 16 + ((d % 16) as u32);
-    if r.count == 1 {
-        return acts(given, r.letter, n, cells, bits, out);
-    }
-    awaits(given, r.letter, r.count - 1, n)
-}
-
-// A letter that is no digit begins a step.
-fn begins(r: Reader, c: u8, cells: &[u8], bits: &[u8], out: &[u8]) -> Reader {
-    let given = r.given;
-    match c {
-        b'\n' => {
-            text(b"\n");
-            fresh(Part::Name)
+    // A digit, where one is awaited. Of a log every second one is the end of a byte.
+    fn take(&mut self, to: &mut impl Write, digit: u8) -> io::Result<()> {
+        match self.reading {
+            Reading::Nothing => Ok(()),
+            Reading::Digits(awaited) => {
+                let then = awaited.with(digit);
+                if then.left == 0 {
+                    return self.act(to, then.call, then.number);
+                }
+                self.reading = Reading::Digits(then);
+                Ok(())
+            }
+            Reading::Log(count, None) => {
+                self.reading = Reading::Log(count % 1024 + 1, Some(digit));
+                Ok(())
+            }
+            Reading::Log(count, Some(high)) => {
+                if let Some(byte) = self.log.get_mut(count / 2) {
+                    *byte = high % 16 * 16 + digit % 16;
+                }
+                self.reading = Reading::Log(count % 1024 + 1, None);
+                Ok(())
+            }
         }
-        b'k' => {
-            checks(cells, bits, out);
-            goes_on(given)
+    }
+
+    // A letter that is no digit begins a step; one that begins none is passed over.
+    fn begin_step(&mut self, to: &mut impl Write, letter: u8) -> io::Result<()> {
+        self.reading = match letter {
+            b'\n' => {
+                writeln!(to)?;
+                self.begin(Part::Name);
+                Reading::Nothing
+            }
+            b'k' => {
+                self.check(to)?;
+                Reading::Nothing
+            }
+            b'=' => Reading::Digits(Awaited::new(Step::Show(Buffer::Cells), 8)),
+            b'@' => Reading::Digits(Awaited::new(Step::Show(Buffer::Bits), 8)),
+            b'!' => Reading::Digits(Awaited::new(Step::Set(Buffer::Cells), 6)),
+            b'~' => Reading::Digits(Awaited::new(Step::Set(Buffer::Bits), 6)),
+            b'c' => Reading::Digits(Awaited::new(Step::Command, 6)),
+            b'l' => Reading::Digits(Awaited::new(Step::Lend(Buffer::Cells), 4)),
+            b'b' => Reading::Digits(Awaited::new(Step::Lend(Buffer::Bits), 4)),
+            b'o' => Reading::Digits(Awaited::new(Step::Lend(Buffer::Out), 4)),
+            b's' => Reading::Digits(Awaited::new(Step::Stage, 1)),
+            b'r' => Reading::Log(0, None),
+            _ => return Ok(()),
+        };
+        Ok(())
+    }
+
+    // A letter of the steps. Where a log was read, a letter that is no digit ends it, and it is run; a space is passed over.
+    fn step(&mut self, to: &mut impl Write, letter: u8) -> io::Result<()> {
+        if letter == b' ' {
+            return Ok(());
         }
-        b'=' | b'@' => awaits(given, c, 8, 0),
-        b'!' | b'~' | b'c' => awaits(given, c, 6, 0),
-        b'l' | b'b' | b'o' => awaits(given, c, 4, 0),
-        b's' => awaits(given, c, 1, 0),
-        b'r' => awaits(given, c, 0, 0),
-        _ => r,
-    }
-}
-
-// The end of a step: a log that was read is run.
-fn ends(r: Reader, log: &[u8], cells: &mut [u8], bits: &mut [u8], out: &mut [u8]) -> Reader {
-    let given = r.given;
-    if r.letter != b'r' {
-        return r;
-    }
-    let n = least(r.count / 2, log.len());
-    runs(given, &log[0..n], cells, bits, out)
-}
-
-// The value of a hex digit; 16 for another letter, and 17 for a space.
-fn digit(c: u8) -> u8 {
-    match c {
-        b'0'..=b'9' => c - b'0',
-        b'A'..=b'F' => c - b'A' + 10,
-        b' ' => 17,
-        _ => 16,
-    }
-}
-
-// A letter of the steps.
-fn steps(
-    r: Reader,
-    c: u8,
-    log: &mut [u8],
-    cells: &mut [u8],
-    bits: &mut [u8],
-    out: &mut [u8],
-) -> Reader {
-    let d = digit(c);
-    if d == 17 {
-        return r;
-    }
-    if d < 16 {
-        return takes(r, d, log, cells, bits, out);
-    }
-    let done = ends(r, log, cells, bits, out);
-    begins(done, c, cells, bits, out)
-}
-
-// The card of each line: all FFh but the code, 12h 34h.
-fn blank(cells: &mut [u8], bits: &mut [u8], out: &mut [u8]) {
-    part::fill(cells, 0xFF);
-    part::fill(bits, 0xFF);
-    part::fill(out, 0xA5);
-    if 1023 < cells.len() {
-        cells[1022] = 0x12;
-        cells[1023] = 0x34;
-    }
-}
-
-// A letter of a name: it is printed; a bar ends the name.
-fn names(r: Reader, c: u8, cells: &mut [u8], bits: &mut [u8], out: &mut [u8]) -> Reader {
-    match c {
-        b'#' => fresh(Part::Comment),
-        b'\n' => r,
-        b'|' => {
-            text(b":");
-            blank(cells, bits, out);
-            fresh(Part::Steps)
+        if let Some(digit) = digits::digit(letter) {
+            return self.take(to, digit);
         }
-        _ => {
-            let s = [c];
-            text(&s);
-            r
+        if let Reading::Log(count, _) = self.reading {
+            self.reading = Reading::Nothing;
+            self.run(to, count / 2)?;
+        }
+        self.begin_step(to, letter)
+    }
+
+    // A letter of a name: it is printed; a bar ends the name.
+    fn name(&mut self, to: &mut impl Write, letter: u8) -> io::Result<()> {
+        match letter {
+            b'#' => self.begin(Part::Comment),
+            b'\n' => {}
+            b'|' => {
+                write!(to, ":")?;
+                self.blank();
+                self.begin(Part::Steps);
+            }
+            _ => to.write_all(&[letter])?,
+        }
+        Ok(())
+    }
+
+    // A letter of the input.
+    fn letter(&mut self, to: &mut impl Write, letter: u8) -> io::Result<()> {
+        match self.part {
+            Part::Name => self.name(to, letter),
+            Part::Steps => self.step(to, letter),
+            Part::Comment => {
+                if letter == b'\n' {
+                    self.begin(Part::Name);
+                }
+                Ok(())
+            }
         }
     }
 }
 
-fn comments(r: Reader, c: u8) -> Reader {
-    if c == b'\n' { fresh(Part::Name) } else { r }
-}
-
-fn letter(
-    r: Reader,
-    c: u8,
-    log: &mut [u8],
-    cells: &mut [u8],
-    bits: &mut [u8],
-    out: &mut [u8],
-) -> Reader {
-    let part = r.part;
-    match part {
-        Part::Name => names(r, c, cells, bits, out),
-        Part::Comment => comments(r, c),
-        Part::Steps => steps(r, c, log, cells, bits, out),
+fn main(rt: HostRuntime) -> io::Result<()> {
+    let mut input = Vec::new(rt.alloc());
+    rt.reader().take(INPUT).read_to_end(&mut input)?;
+    let mut to = io::writer(&rt);
+    let mut table = Table {
+        log: [0; LOG],
+        cells: [0; CELLS],
+        bits: [0; BITS],
+        out: [0; OUT],
+        part: Part::Name,
+        reading: Reading::Nothing,
+        stage: Stage::Fresh,
+        lent: LENT,
+    };
+    for letter in input.iter() {
+        table.letter(&mut to, *letter)?;
     }
-}
-
-// All letters of the input.
-fn letters(s: &[u8], log: &mut [u8], cells: &mut [u8], bits: &mut [u8], out: &mut [u8]) {
-    let mut r = fresh(Part::Name);
-    let mut i = 0;
-    while i < s.len() {
-        r = letter(r, s[i], log, cells, bits, out);
-        i += 1;
-    }
-}
-
-fn main() {
-    let mut input = [0u8; 32768];
-    let mut log = [0u8; 128];
-    let mut cells = [0u8; 1040];
-    let mut bits = [0u8; 136];
-    let mut out = [0u8; 128];
-    let n = io::read_full(0, &mut input);
-    letters(&input[..n], &mut log, &mut cells, &mut bits, &mut out);
+    Ok(())
 }

@@ -3,280 +3,229 @@
 // is written.
 #![tactic(auto)]
 
-ghost use Rattle.std.specs.Prelude.{◌≤◌};
-
-use copies::Found;
+use copies::{Found, ReadError};
+use digits::Awaited;
 use part::{Fm25s005bi3, Geometry};
+use std::io;
+use std::io::{Read, Write};
 
-// The standard output.
-const STDOUT_FILENO: i32 = 1;
+// The most bytes of input that are read.
+const INPUT: u64 = 16384;
 
-// What the letters of a line stand for: its name, a comment, or steps.
-#[derive(Clone, Copy)]
+// The bytes of memory.
+const MEMORY: usize = 1024;
+
+// The part of a line that is being read.
+#[derive(Clone, Copy, Debug, PartialEq, Eq)]
 enum Part {
     Name,
     Comment,
     Steps,
 }
 
-// What the steps of a line go by: the part, and how many bytes are lent.
+// The numbers of a part.
+#[derive(Clone, Copy, Debug, PartialEq, Eq)]
+enum Size {
+    Main,
+    Spare,
+    Pages,
+    Blocks,
+}
+
+// The steps that have digits.
+#[derive(Clone, Copy, Debug, PartialEq, Eq)]
+enum Step {
+    Lend,
+    Size(Size),
+    Make,
+    Check,
+    Show,
+    Set,
+}
+
+// Where the reading stands: the memory, the part of the line, the step whose digits are being read, and what the steps go by: the part, and
+// how many bytes are lent.
 #[derive(Clone, Copy)]
-struct Given {
-    g: Geometry,
+struct Table {
+    memory: [u8; MEMORY],
+    part: Part,
+    awaited: Option<Awaited<Step>>,
+    geometry: Geometry,
     lent: usize,
 }
 
-// Where the reading stands: what is given, the part of the line, and the letter whose digits are read, with how many are to come and the
-// number so far.
-#[derive(Clone, Copy)]
-struct Reader {
-    given: Given,
-    part: Part,
-    letter: u8,
-    left: u8,
-    number: u32,
+// The bytes of a slice in hex. (Each program has its own: no contract says what a writer was given, so `digits` has no such function.)
+fn bytes(to: &mut impl Write, bytes: &[u8]) -> io::Result<()> {
+    for byte in bytes {
+        write!(to, "{byte:02x}")?;
+    }
+    Ok(())
 }
 
-fn text(s: &[u8]) {
-    io::write_all(STDOUT_FILENO, s);
+// A stretch of memory, as much of it as there is.
+fn stretch(memory: &[u8], place: usize, length: usize) -> &[u8] {
+    let from = place.min(memory.len());
+    let upto = from + length.min(memory.len() - from);
+    &memory[from..upto]
 }
 
-fn number(s: &[u8], n: u8) {
-    text(s);
-    io::print_decimal(STDOUT_FILENO, n as u64);
+impl Table {
+    // FM25S005BI3, all of the memory lent, and a part of a line.
+    fn begin(&mut self, part: Part) {
+        self.part = part;
+        self.awaited = None;
+        self.geometry = Fm25s005bi3::geometry();
+        self.lent = MEMORY;
+    }
+
+    // `m` and a place: a page is made, told by its number.
+    fn make(&mut self, to: &mut impl Write, place: usize) -> io::Result<()> {
+        let upto = self.lent.min(MEMORY);
+        let from = place.min(upto);
+        let made = sheet::make(self.geometry, &mut self.memory[from..upto]);
+        write!(to, " m{}", sheet::made_number(made))
+    }
+
+    // `r`: the copies are read, told by the copy and its four numbers, or by the refusal.
+    fn read(&self, to: &mut impl Write) -> io::Result<()> {
+        match copies::read(&self.memory[..self.lent.min(MEMORY)]) {
+            Ok(Found { copy, sizes }) => write!(
+                to,
+                " r0 {copy} {:08x} {:04x} {:08x} {:08x}",
+                sizes.main, sizes.spare, sizes.pages, sizes.blocks
+            ),
+            Err(ReadError::NoCopy) => write!(to, " r10"),
+            Err(ReadError::TooShort) => write!(to, " r11"),
+        }
+    }
+
+    // The part with another number.
+    fn resize(&mut self, size: Size, n: u32) {
+        match size {
+            Size::Main => self.geometry.main = n,
+            Size::Spare => self.geometry.spare = n,
+            Size::Pages => self.geometry.pages = n,
+            Size::Blocks => self.geometry.blocks = n,
+        }
+    }
+
+    // All digits of a step are there. Two numbers of four digits stand in one.
+    fn act(&mut self, to: &mut impl Write, step: Step, n: u32) -> io::Result<()> {
+        let first = (n / 65536) as usize;
+        let second = (n % 65536) as usize;
+        self.awaited = None;
+        match step {
+            Step::Lend => self.lent = second,
+            Step::Size(size) => self.resize(size, n),
+            Step::Make => self.make(to, second)?,
+            // `c`, a place and a length: the check of a stretch.
+            Step::Check => write!(
+                to,
+                " c{:04x}",
+                crc::check_of(stretch(&self.memory, first, second))
+            )?,
+            // `=`, a place and a length: the bytes of a stretch.
+            Step::Show => {
+                write!(to, " =")?;
+                bytes(to, stretch(&self.memory, first, second))?;
+            }
+            // `!`, a place and a byte: the byte is set.
+            Step::Set => {
+                if let Some(byte) = self.memory.get_mut((n / 256 % 65536) as usize) {
+                    *byte = (n % 256) as u8;
+                }
+            }
+        }
+        Ok(())
+    }
+
+    // A digit, where one is awaited.
+    fn take(&mut self, to: &mut impl Write, digit: u8) -> io::Result<()> {
+        let Some(awaited) = self.awaited else {
+            return Ok(());
+        };
+        let then = awaited.with(digit);
+        if then.left == 0 {
+            return self.act(to, then.call, then.number);
+        }
+        self.awaited = Some(then);
+        Ok(())
+    }
+
+    // A letter of a name: it is printed; a bar ends the name.
+    fn name(&mut self, to: &mut impl Write, letter: u8) -> io::Result<()> {
+        match letter {
+            b'#' => self.begin(Part::Comment),
+            b'\n' => {}
+            b'|' => {
+                write!(to, ":")?;
+                self.memory = [0xA5; MEMORY];
+                self.begin(Part::Steps);
+            }
+            _ => to.write_all(&[letter])?,
+        }
+        Ok(())
+    }
+
+    // A letter of the steps; one that begins none and is no digit is passed over.
+    fn step(&mut self, to: &mut impl Write, letter: u8) -> io::Result<()> {
+        self.awaited = match letter {
+            b'\n' => {
+                writeln!(to)?;
+                self.begin(Part::Name);
+                None
+            }
+            b'r' => {
+                self.read(to)?;
+                None
+            }
+            b'd' => Some(Awaited::new(Step::Size(Size::Main), 8)),
+            b's' => Some(Awaited::new(Step::Size(Size::Spare), 8)),
+            b'k' => Some(Awaited::new(Step::Size(Size::Pages), 8)),
+            b'n' => Some(Awaited::new(Step::Size(Size::Blocks), 8)),
+            b'c' => Some(Awaited::new(Step::Check, 8)),
+            b'=' => Some(Awaited::new(Step::Show, 8)),
+            b'!' => Some(Awaited::new(Step::Set, 6)),
+            b'l' => Some(Awaited::new(Step::Lend, 4)),
+            b'm' => Some(Awaited::new(Step::Make, 4)),
+            _ => {
+                return match digits::digit(letter) {
+                    Some(digit) => self.take(to, digit),
+                    None => Ok(()),
+                };
+            }
+        };
+        Ok(())
+    }
+
+    // A letter of the input.
+    fn letter(&mut self, to: &mut impl Write, letter: u8) -> io::Result<()> {
+        match self.part {
+            Part::Name => self.name(to, letter),
+            Part::Steps => self.step(to, letter),
+            Part::Comment => {
+                if letter == b'\n' {
+                    self.begin(Part::Name);
+                }
+                Ok(())
+            }
+        }
+    }
 }
 
-fn hex(s: &[u8], n: u32, digits: usize) {
-    text(s);
-    io::print_hex(STDOUT_FILENO, n as u64, digits);
-}
-
-// The lesser of two numbers.
-fn least(a: usize, b: usize) -> usize
-    ensures { (result ≤ a) × (result ≤ b) }
-{
-    if a < b { a } else { b }
-}
-
-// FM25S005BI3, all of 1,024 bytes lent, and a part of a line.
-fn fresh(part: Part) -> Reader {
-    let given = Given {
-        g: Fm25s005bi3::geometry(),
-        lent: 1024,
+fn main(rt: HostRuntime) -> io::Result<()> {
+    let mut input = Vec::new(rt.alloc());
+    rt.reader().take(INPUT).read_to_end(&mut input)?;
+    let mut to = io::writer(&rt);
+    let mut table = Table {
+        memory: [0; MEMORY],
+        part: Part::Name,
+        awaited: None,
+        geometry: Fm25s005bi3::geometry(),
+        lent: MEMORY,
     };
-    Reader {
-        given,
-        part,
-        letter: 0,
-        left: 0,
-        number: 0,
+    for letter in input.iter() {
+        table.letter(&mut to, *letter)?;
     }
-}
-
-// Digits are read for a letter.
-fn awaits(given: Given, letter: u8, left: u8, number: u32) -> Reader {
-    Reader {
-        given,
-        part: Part::Steps,
-        letter,
-        left,
-        number,
-    }
-}
-
-// The steps of a line go on.
-fn goes_on(given: Given) -> Reader {
-    awaits(given, 0, 0, 0)
-}
-
-// `m` and a place: a page is made, told by its number.
-fn makes(given: Given, place: usize, memory: &mut [u8]) {
-    let e = least(given.lent, memory.len());
-    let a = least(place, e);
-    let g = given.g;
-    let made = sheet::make(g, &mut memory[a..e]);
-    number(b" m", sheet::made_number(made));
-}
-
-// `r`: the copies are read, told by the copy and its four numbers, or by the refusal.
-fn reads(given: Given, memory: &[u8]) {
-    let e = least(given.lent, memory.len());
-    match copies::read(&memory[0..e]) {
-        Found::At(copy, s) => {
-            number(b" r0 ", copy);
-            hex(b" ", s.main, 8);
-            hex(b" ", s.spare as u32, 4);
-            hex(b" ", s.pages, 8);
-            hex(b" ", s.blocks, 8);
-        }
-        Found::NoCopy => text(b" r10"),
-        Found::TooShort => text(b" r11"),
-    }
-}
-
-// The bytes of a slice in hex.
-fn bytes(s: &[u8]) {
-    let mut i = 0;
-    while i < s.len() {
-        hex(b"", s[i] as u32, 2);
-        i += 1;
-    }
-}
-
-// `c`, a place and a length: the check of a stretch.
-fn checks(place: usize, length: usize, memory: &[u8]) {
-    let a = least(place, memory.len());
-    let e = a + least(length, memory.len() - a);
-    let check = crc::check_of(&memory[a..e]);
-    hex(b" c", check as u32, 4);
-}
-
-// `=`, a place and a length: the bytes of a stretch.
-fn shows(place: usize, length: usize, memory: &[u8]) {
-    let a = least(place, memory.len());
-    let e = a + least(length, memory.len() - a);
-    text(b" =");
-    bytes(&memory[a..e]);
-}
-
-// `!`, a place and a byte: the byte is set.
-fn sets(place: usize, b: u8, memory: &mut [u8]) {
-    if place < memory.len() {
-        memory[place] = b;
-    }
-}
-
-// The part with another number.
-fn with_number(g: Geometry, letter: u8, n: u32) -> Geometry {
-    let mut h = g;
-    match letter {
-        b'd' => h.main = n,
-        b's' => h.spare = n,
-        b'k' => h.pages = n,
-        _ => h.blocks = n,
-    }
-    h
-}
-
-// All digits of a letter are there. Two numbers of four digits stand in one.
-fn acts(given: Given, letter: u8, n: u32, memory: &mut [u8]) -> Reader {
-    let lent = given.lent;
-    let g = given.g;
-    let first = (n / 65536) as usize;
-    let second = (n % 65536) as usize;
-    match letter {
-        b'l' => goes_on(Given { g, lent: second }),
-        b'm' => {
-            makes(given, second, memory);
-            goes_on(given)
-        }
-        b'c' => {
-            checks(first, second, memory);
-            goes_on(given)
-        }
-        b'=' => {
-            shows(first, second, memory);
-            goes_on(given)
-        }
-        b'!' => {
-            sets((n / 256 % 65536) as usize, (n % 256) as u8, memory);
-            goes_on(given)
-        }
-        _ => goes_on(Given {
-            g: with_number(g, letter, n),
-            lent,
-        }),
-    }
-}
-
-// The value of a hex digit; 16 for another letter.
-fn digit(c: u8) -> u8 {
-    match c {
-        b'0'..=b'9' => c - b'0',
-        b'A'..=b'F' => c - b'A' + 10,
-        _ => 16,
-    }
-}
-
-// A digit, where one is read for; all else is passed over.
-fn takes(r: Reader, d: u8, memory: &mut [u8]) -> Reader {
-    let given = r.given;
-    if d == 16 {
-        return r;
-    }
-    if r.left == 0 {
-        return r;
-    }
-    let n = r.number % 268435456 * 16 + ((d % 16) as u32);
-    if r.left == 1 {
-        return acts(given, r.letter, n, memory);
-    }
-    awaits(given, r.letter, r.left - 1, n)
-}
-
-// A letter of a name: it is printed; a bar ends the name.
-fn names(r: Reader, c: u8, memory: &mut [u8]) -> Reader {
-    match c {
-        b'#' => fresh(Part::Comment),
-        b'\n' => r,
-        b'|' => {
-            text(b":");
-            part::fill(memory, 0xA5);
-            fresh(Part::Steps)
-        }
-        _ => {
-            let s = [c];
-            text(&s);
-            r
-        }
-    }
-}
-
-// A letter of the steps.
-fn steps(r: Reader, c: u8, memory: &mut [u8]) -> Reader {
-    let given = r.given;
-    match c {
-        b'\n' => {
-            text(b"\n");
-            fresh(Part::Name)
-        }
-        b'r' => {
-            reads(given, memory);
-            goes_on(given)
-        }
-        b'd' | b's' | b'k' | b'n' | b'c' | b'=' => awaits(given, c, 8, 0),
-        b'!' => awaits(given, c, 6, 0),
-        b'l' | b'm' => awaits(given, c, 4, 0),
-        _ => takes(r, digit(c), memory),
-    }
-}
-
-fn comments(r: Reader, c: u8) -> Reader {
-    if c == b'\n' { fresh(Part::Name) } else { r }
-}
-
-fn letter(r: Reader, c: u8, memory: &mut [u8]) -> Reader {
-    let part = r.part;
-    match part {
-        Part::Name => names(r, c, memory),
-        Part::Comment => comments(r, c),
-        Part::Steps => steps(r, c, memory),
-    }
-}
-
-// All letters of the input.
-fn letters(s: &[u8], memory: &mut [u8]) {
-    let mut r = fresh(Part::Name);
-    let mut i = 0;
-    while i < s.len() {
-        r = letter(r, s[i], memory);
-        i += 1;
-    }
-}
-
-fn main() {
-    let mut input = [0u8; 16384];
-    let mut memory = [0u8; 1024];
-    let n = io::read_full(0, &mut input);
-    letters(&input[..n], &mut memory);
+    Ok(())
 }

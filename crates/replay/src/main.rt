@@ -1,88 +1,92 @@
-// The replay program: a log on standard input, run on the bench part, one line a record. Document 01, "The replay program".
+// The replay program: a log on standard input, run on the bench part, one line per record. Document 01, "The replay program".
 #![tactic(auto)]
 
 ghost use Rattle.std.specs.Prelude.{◌≤◌, length};
 
-use buslog::{Next, Record};
+use buslog::Record;
 use device::State;
 use part::Bench;
+use refusals::Refusal;
+use std::io;
+use std::io::{Read, Write};
+
+// The most bytes of a log.
+const LOG: usize = 4096;
+
+// The bench part: its state, and its memory.
+#[derive(Clone, Copy)]
+struct Device {
+    state: State,
+    cells: [u8; 640],
+    cache: [u8; 20],
+    counts: [u8; 32],
+}
+
+impl Device {
+    // A log run, and why it ends.
+    fn run(&mut self, log: &[u8], out: &mut [u8]) -> Refusal {
+        let state = self.state;
+        let cells = &mut self.cells[..];
+        let cache = &mut self.cache[..];
+        let counts = &mut self.counts[..];
+        let answer = model::run(Bench::geometry(), state, log, cells, cache, counts, out);
+        self.state = answer.state;
+        answer.refusal
+    }
+}
 
 // The line of a record. It holds at most 14 bytes: five digits, and nine behind them.
-fn print_record(number: u16, e: Record, d: u8, status: u8) {
+fn line(to: &mut impl Write, number: u16, record: Record, byte: u8, status: u8) -> io::Result<()> {
     let mut text = [0u8; 16];
-    let n = lines::record_line(number, e, d, status, &mut text);
-    io::write_all(1, &text[..n]);
+    if let Some(n) = lines::record_line(number, record, byte, status, &mut text) {
+        to.write_all(&text[..n])?;
+    }
+    Ok(())
 }
 
 // The last line, of at most 14 bytes too.
-fn print_end(refusal: u8, records: u16) {
+fn end(to: &mut impl Write, refusal: u8, records: u16) -> io::Result<()> {
     let mut text = [0u8; 16];
-    let n = lines::end_line(refusal, records, &mut text);
-    io::write_all(1, &text[..n]);
+    if let Some(n) = lines::end_line(refusal, records, &mut text) {
+        to.write_all(&text[..n])?;
+    }
+    Ok(())
 }
 
-// One record run from a state, and its line: the state comes back. The log here is that record alone.
-fn turn(
-    s: State,
-    log: &[u8],
-    e: Record,
-    number: u16,
-    cells: &mut [u8],
-    cache: &mut [u8],
-    counts: &mut [u8],
-) -> State {
-    let mut out = [0xFFu8; 1];
-    let a = model::run(Bench::geometry(), s, log, cells, cache, counts, &mut out);
-    let t = a.state;
-    print_record(number, e, out[0], t.regs.c0);
-    t
-}
-
-// The rest of the log, where no record stands, and the last line.
-fn finish(
-    s: State,
-    log: &[u8],
-    records: u16,
-    cells: &mut [u8],
-    cache: &mut [u8],
-    counts: &mut [u8],
-) {
-    let mut out = [0xFFu8; 1];
-    let a = model::run(Bench::geometry(), s, log, cells, cache, counts, &mut out);
-    let r = a.refusal;
-    print_end(refusals::number_of(r), records);
-}
-
-// The log, met record by record by the reader, from power-up.
-fn replay(log: &[u8], cells: &mut [u8], cache: &mut [u8], counts: &mut [u8])
+// The log, met record by record by the reader.
+// No `for`: where the next record stands is known only when this one has been read.
+fn replay(to: &mut impl Write, device: &mut Device, log: &[u8]) -> io::Result<()>
     requires { length log.now ≤ 4096 }
 {
-    let mut s = State::power_up();
     let mut at = 0;
-    let mut records: u16 = 0;
-    loop {
-        let m = reader::meet(log, at);
-        let next = m.next;
-        let place = m.place;
-        match next {
-            Next::Stop(_) => {
-                finish(s, &log[at..], records, cells, cache, counts);
-                return;
+    let mut number = 0;
+    'records: loop {
+        let met = reader::meet(log, at);
+        let mut out = [0xFFu8; 1];
+        match met.next {
+            Err(_) => {
+                let refusal = device.run(&log[at..], &mut out);
+                return end(to, refusals::number_of(refusal), number);
             }
-            Next::Found(e, _) => {
-                s = turn(s, &log[at..place], e, records, cells, cache, counts);
-                at = place;
-                records += 1;
+            Ok((record, _)) => {
+                device.run(&log[at..met.place], &mut out);
+                line(to, number, record, out[0], device.state.regs.c0)?;
+                at = met.place;
+                number += 1;
             }
         }
     }
 }
 
-fn main() {
-    let mut log = io::buffer();
-    let n = io::read_full(0, &mut log);
-    let mut cells = [0xFFu8; 640];
-    let mut cache = [0xFFu8; 20];
-    let mut counts = [0u8; 32];
-    replay(&log[..n], &mut cells, &mut cache, &mut counts);
+fn main(rt: HostRuntime) -> io::Result<()> {
+    let mut input = Vec::new(rt.alloc());
+    rt.reader().take(LOG as u64).read_to_end(&mut input)?;
+    let log = &input[..input.len().min(LOG)];
+    let mut device = Device {
+        state: State::power_up(),
+        cells: [0xFF; 640],
+        cache: [0xFF; 20],
+        counts: [0; 32],
+    };
+    replay(&mut io::writer(&rt), &mut device, log)
 }

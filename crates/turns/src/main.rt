@@ -2,238 +2,188 @@
 // out by hand; none is copied from what this program printed. The head of the input says how a line is written.
 #![tactic(auto)]
 
-use keeper::{Keeper, Queue};
+use digits::Awaited;
+use keeper::{Added, Grant, Granted, Keeper, Queue};
+use std::io;
+use std::io::{Read, Write};
 
-// The standard output.
-const STDOUT_FILENO: i32 = 1;
+// The most bytes of input that are read.
+const INPUT: u64 = 16384;
 
-// What the letters of a line stand for: its name, a comment, or calls.
-#[derive(Clone, Copy)]
+// The part of a line that is being read.
+#[derive(Clone, Copy, Debug, PartialEq, Eq)]
 enum Part {
     Name,
     Comment,
     Calls,
 }
 
-// Where the reading stands: the keeper, the part of the line, and the letter whose digits are read, with how many are to come and the
-// number so far.
+// The calls that have digits.
+#[derive(Clone, Copy, Debug, PartialEq, Eq)]
+enum Call {
+    Add,
+    Set,
+}
+
+// Where the reading stands: the keeper, the part of the line, and the call whose digits are being read.
 #[derive(Clone, Copy)]
-struct Reader {
+struct Table {
     keeper: Keeper,
     part: Part,
-    letter: u8,
-    left: u8,
-    number: u32,
+    awaited: Option<Awaited<Call>>,
 }
 
-fn text(s: &[u8]) {
-    io::write_all(STDOUT_FILENO, s);
+// Every byte of a queue.
+fn show_queue(to: &mut impl Write, queue: Queue) -> io::Result<()> {
+    write!(to, " {} {} ", queue.head, queue.length)?;
+    for tag in queue.tags {
+        write!(to, "{tag:02x}")?;
+    }
+    Ok(())
 }
 
-fn number(s: &[u8], n: u8) {
-    text(s);
-    io::print_decimal(STDOUT_FILENO, n as u64);
-}
-
-fn hex(s: &[u8], b: u8) {
-    text(s);
-    io::print_hex(STDOUT_FILENO, b as u64, 2);
-}
-
-// A new keeper, and a part of a line.
-fn fresh(part: Part) -> Reader {
-    Reader {
-        keeper: Keeper::new(),
-        part,
-        letter: 0,
-        left: 0,
-        number: 0,
+// A field of a queue is set: 0 to 7 a tag, 8 the place of the front, above it the length.
+fn set_field(queue: &mut Queue, field: usize, byte: u8) {
+    match queue.tags.get_mut(field) {
+        Some(tag) => *tag = byte,
+        None if field == 8 => queue.head = byte,
+        None => queue.length = byte,
     }
 }
 
-// Digits are read for a letter.
-fn reads(keeper: Keeper, letter: u8, left: u8, number: u32) -> Reader {
-    Reader {
-        keeper,
-        part: Part::Calls,
-        letter,
-        left,
-        number,
-    }
-}
-
-// The calls of a line go on with a keeper.
-fn goes_on(keeper: Keeper) -> Reader {
-    reads(keeper, 0, 0, 0)
-}
-
-// `+`, core and tag: an adding, told by its number.
-fn adds(keeper: Keeper, core: u8, tag: u8) -> Keeper {
-    let a = keeper.add(core, tag);
-    let why = a.refused;
-    number(b" +", keeper::number_of(why));
-    a.keeper
-}
-
-// `*`: a grant, told by core and tag, or by its number.
-fn grants(keeper: Keeper) -> Keeper {
-    let g = keeper.grant();
-    let why = g.refused;
-    let n = keeper::number_of(why);
-    if n == 0 {
-        number(b" *", g.core);
-        hex(b":", g.tag);
-    } else {
-        number(b" *", n);
-    }
-    g.keeper
-}
-
-// A field of a queue: 0 to 7 a tag, 8 the place of the front, above it the length.
-fn with_field(q: Queue, field: usize, b: u8) -> Queue {
-    let mut r = q;
-    if field < 8 {
-        r.tags[field] = b;
-    } else if field == 8 {
-        r.head = b;
-    } else {
-        r.length = b;
-    }
-    r
-}
-
-// `!`, a core, a field and a byte: that field is set; above core 3 the last core is.
-fn sets(keeper: Keeper, core: usize, field: usize, b: u8) -> Keeper {
-    let mut k = keeper;
-    if core < 4 {
-        k.queues[core] = with_field(k.queues[core], field, b);
-    } else {
-        k.last = b;
-    }
-    k
-}
-
-// The bytes of a slice in hex.
-fn bytes(s: &[u8]) {
-    let mut i = 0;
-    while i < s.len() {
-        hex(b"", s[i]);
-        i += 1;
-    }
-}
-
-fn shows_queue(q: Queue) {
-    let tags = q.tags;
-    number(b" ", q.head);
-    number(b" ", q.length);
-    text(b" ");
-    bytes(&tags);
-}
-
-// `=`: every byte of the keeper.
-fn shows(k: Keeper) {
-    number(b" =", k.last);
-    shows_queue(k.queues[0]);
-    shows_queue(k.queues[1]);
-    shows_queue(k.queues[2]);
-    shows_queue(k.queues[3]);
-}
-
-// All digits of a letter are there.
-fn acts(keeper: Keeper, letter: u8, n: u32) -> Reader {
-    let b = (n % 256) as u8;
-    if letter == b'+' {
-        return goes_on(adds(keeper, (n / 256 % 16) as u8, b));
-    }
-    goes_on(sets(keeper, (n / 4096 % 16) as usize, (n / 256 % 16) as usize, b))
-}
-
-// The value of a hex digit; 16 for another letter.
-fn digit(c: u8) -> u8 {
-    match c {
-        b'0'..=b'9' => c - b'0',
-        b'A'..=b'F' => c - b'A' + 10,
-        _ => 16,
-    }
-}
-
-// A digit, where one is read for; all else is passed over.
-fn takes(r: Reader, d: u8) -> Reader {
-    let k = r.keeper;
-    if d == 16 {
-        return r;
-    }
-    if r.left == 0 {
-        return r;
-    }
-    let n = r.number % 4096 * 16 + ((d % 16) as u32);
-    if r.left == 1 {
-        return acts(k, r.letter, n);
-    }
-    reads(k, r.letter, r.left - 1, n)
-}
-
-// A letter of a name: it is printed; a bar ends the name.
-fn names(r: Reader, c: u8) -> Reader {
-    match c {
-        b'#' => fresh(Part::Comment),
-        b'\n' => r,
-        b'|' => {
-            text(b":");
-            fresh(Part::Calls)
+impl Table {
+    // A new keeper, and a part of a line.
+    fn fresh(part: Part) -> Table {
+        Table {
+            keeper: Keeper::new(),
+            part,
+            awaited: None,
         }
-        _ => {
-            let s = [c];
-            text(&s);
-            r
+    }
+
+    // `+`, core and tag: an adding, told by its number.
+    fn add(&mut self, to: &mut impl Write, core: u8, tag: u8) -> io::Result<()> {
+        let Added { keeper, answer } = self.keeper.add(core, tag);
+        self.keeper = keeper;
+        match answer {
+            Ok(()) => write!(to, " +0"),
+            Err(why) => write!(to, " +{}", keeper::number_of(why)),
+        }
+    }
+
+    // `*`: a grant, told by core and tag, or by its number.
+    fn grant(&mut self, to: &mut impl Write) -> io::Result<()> {
+        let Granted { keeper, answer } = self.keeper.grant();
+        self.keeper = keeper;
+        match answer {
+            Ok(Grant { core, tag }) => write!(to, " *{core}:{tag:02x}"),
+            Err(why) => write!(to, " *{}", keeper::number_of(why)),
+        }
+    }
+
+    // `=`: every byte of the keeper.
+    fn show(&self, to: &mut impl Write) -> io::Result<()> {
+        write!(to, " ={}", self.keeper.last)?;
+        for queue in self.keeper.queues {
+            show_queue(to, queue)?;
+        }
+        Ok(())
+    }
+
+    // `!`, a core, a field and a byte: that field is set; above core 3 the last core is.
+    fn set(&mut self, core: usize, field: usize, byte: u8) {
+        match self.keeper.queues.get_mut(core) {
+            Some(queue) => set_field(queue, field, byte),
+            None => self.keeper.last = byte,
+        }
+    }
+
+    // All digits of a call are there.
+    fn act(&mut self, to: &mut impl Write, call: Call, n: u32) -> io::Result<()> {
+        let byte = (n % 256) as u8;
+        let middle = (n / 256 % 16) as u8;
+        self.awaited = None;
+        match call {
+            Call::Add => self.add(to, middle, byte),
+            Call::Set => {
+                self.set((n / 4096 % 16) as usize, usize::from(middle), byte);
+                Ok(())
+            }
+        }
+    }
+
+    // A digit, where one is awaited.
+    fn take(&mut self, to: &mut impl Write, digit: u8) -> io::Result<()> {
+        let Some(awaited) = self.awaited else {
+            return Ok(());
+        };
+        let then = awaited.with(digit);
+        if then.left == 0 {
+            return self.act(to, then.call, then.number);
+        }
+        self.awaited = Some(then);
+        Ok(())
+    }
+
+    // A letter of a name: it is printed; a bar ends the name.
+    fn name(&mut self, to: &mut impl Write, letter: u8) -> io::Result<()> {
+        match letter {
+            b'#' => *self = Table::fresh(Part::Comment),
+            b'\n' => {}
+            b'|' => {
+                write!(to, ":")?;
+                *self = Table::fresh(Part::Calls);
+            }
+            _ => to.write_all(&[letter])?,
+        }
+        Ok(())
+    }
+
+    // A letter of the calls; one that begins none and is no digit is passed over.
+    fn call(&mut self, to: &mut impl Write, letter: u8) -> io::Result<()> {
+        match letter {
+            b'\n' => {
+                writeln!(to)?;
+                *self = Table::fresh(Part::Name);
+            }
+            b'+' => self.awaited = Some(Awaited::new(Call::Add, 3)),
+            b'!' => self.awaited = Some(Awaited::new(Call::Set, 4)),
+            b'*' => {
+                self.awaited = None;
+                self.grant(to)?;
+            }
+            b'=' => self.show(to)?,
+            _ => {
+                if let Some(digit) = digits::digit(letter) {
+                    self.take(to, digit)?;
+                }
+            }
+        }
+        Ok(())
+    }
+
+    // A letter of the input.
+    fn letter(&mut self, to: &mut impl Write, letter: u8) -> io::Result<()> {
+        match self.part {
+            Part::Name => self.name(to, letter),
+            Part::Calls => self.call(to, letter),
+            Part::Comment => {
+                if letter == b'\n' {
+                    *self = Table::fresh(Part::Name);
+                }
+                Ok(())
+            }
         }
     }
 }
 
-// A letter of the calls.
-fn calls(r: Reader, c: u8) -> Reader {
-    let k = r.keeper;
-    match c {
-        b'\n' => {
-            text(b"\n");
-            fresh(Part::Name)
-        }
-        b'+' => reads(k, c, 3, 0),
-        b'!' => reads(k, c, 4, 0),
-        b'*' => goes_on(grants(k)),
-        b'=' => {
-            shows(k);
-            r
-        }
-        _ => takes(r, digit(c)),
+fn main(rt: HostRuntime) -> io::Result<()> {
+    let mut input = Vec::new(rt.alloc());
+    rt.reader().take(INPUT).read_to_end(&mut input)?;
+    let mut to = io::writer(&rt);
+    let mut table = Table::fresh(Part::Name);
+    for letter in input.iter() {
+        table.letter(&mut to, *letter)?;
     }
-}
-
-fn comments(r: Reader, c: u8) -> Reader {
-    if c == b'\n' { fresh(Part::Name) } else { r }
-}
-
-fn letter(r: Reader, c: u8) -> Reader {
-    let part = r.part;
-    match part {
-        Part::Name => names(r, c),
-        Part::Comment => comments(r, c),
-        Part::Calls => calls(r, c),
-    }
-}
-
-// All letters of the input.
-fn letters(s: &[u8]) {
-    let mut r = fresh(Part::Name);
-    let mut i = 0;
-    while i < s.len() {
-        r = letter(r, s[i]);
-        i += 1;
-    }
-}
-
-fn main() {
-    let mut input = [0u8; 16384];
-    let n = io::read_full(0, &mut input);
-    letters(&input[..n]);
+    Ok(())
 }
