@@ -97,7 +97,7 @@ fn put(memory: &mut [u8], n: u32) {
     }
 }
 
-// A stage by its number, and its number, as the lines of the table write it: any number above 2 is the last stage.
+// The stage of a number, as the lines of the table write it: any number above 2 is the last stage.
 fn stage_of(n: u32) -> Stage {
     match n {
         0 => Stage::Fresh,
@@ -107,6 +107,7 @@ fn stage_of(n: u32) -> Stage {
     }
 }
 
+// The number of a stage, the same way.
 fn stage_number(stage: Stage) -> u8 {
     match stage {
         Stage::Fresh => 0,

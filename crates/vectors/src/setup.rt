@@ -24,11 +24,12 @@ pub(crate) struct Setup {
     pub(crate) out: Lent,
 }
 
-// A number as a byte, and as a number of 16 bits.
+// A number as a byte.
 fn byte(n: u32) -> u8 {
     (n % 256) as u8
 }
 
+// A number as one of 16 bits.
 fn short(n: u32) -> u16 {
     (n % 65536) as u16
 }

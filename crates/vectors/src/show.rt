@@ -26,6 +26,7 @@ struct Tally {
 }
 
 impl Tally {
+    // One byte more that differs, at its place.
     fn with(self, place: usize, byte: u8) -> Tally {
         let mixed = (self.sum as usize) * 31 + place % 65536 * 256 + usize::from(byte);
         Tally {
