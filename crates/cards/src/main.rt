@@ -3,13 +3,14 @@
 #![tactic(auto)]
 
 use card::Stage;
+use console::Output;
 use digits::Awaited;
 use slot::Answer;
 use std::io;
-use std::io::{Read, Write};
+use std::io::Write;
 
 // The most bytes of input that are read.
-const INPUT: u64 = 32768;
+const INPUT: usize = 32768;
 
 // The bytes of a log, of cells, of protect bits and of output that there are.
 const LOG: usize = 128;
@@ -345,10 +346,11 @@ impl Table {
     }
 }
 
-fn main(rt: HostRuntime) -> io::Result<()> {
-    let mut input = Vec::new(rt.alloc());
-    rt.reader().take(INPUT).read_to_end(&mut input)?;
-    let mut to = io::writer(&rt);
+// The input is on the stack: a program that needs no heap cannot run out of it. `to` passes over a write that fails, and no status says so.
+fn main(rt: HostRuntime) {
+    let mut input = [0; INPUT];
+    let length = console::read_full(&mut rt.reader(), &mut input);
+    let mut to = Output::new(io::writer(&rt));
     let mut table = Table {
         log: [0; LOG],
         cells: [0; CELLS],
@@ -359,8 +361,8 @@ fn main(rt: HostRuntime) -> io::Result<()> {
         stage: Stage::Fresh,
         lent: LENT,
     };
-    for letter in input.iter() {
-        table.letter(&mut to, *letter)?;
+    for letter in &input[..length] {
+        let _told = table.letter(&mut to, *letter).is_ok();
     }
-    Ok(())
+    let _told = to.flush().is_ok();
 }

@@ -1,5 +1,5 @@
 -- Bytes fed one after another: what a loop over them holds, and what it has when it ends or hands the rest on.
-use mathlib.Core.Bool.{Bool}
+use mathlib.Core.Bool.{Bool, false}
 use mathlib.Core.List.{List, [], ◌∷◌, ◌++◌, append_assoc, append-nil}
 use mathlib.Core.Path.{◌≡◌, refl, sym, ap, ◌∙◌}
 use Prim.Native.Nat.{ℕ, suc, ◌+◌, ◌-◌, ◌≤◌, ◌<◌}
@@ -10,7 +10,7 @@ use lib.Seq.{take_all, drop-cons, drop-length, drop-drop, drop-set-lt, take-suc-
 use Rattle.part.specs.declared.Column.{Column}
 use Rattle.part.specs.declared.Geometry.{Geometry}
 use Rattle.registers.specs.Registers.{oip}
-use Rattle.transfer.specs.Transfer.{shifted_in, cached}
+use Rattle.transfer.specs.Transfer.{heard, shifted_in, cached}
 use Rattle.transfer.specs.declared.Bus.{Bus}
 use Rattle.reply.specs.Reply.{byte_out}
 use Rattle.device.specs.Machine.{Machine, on_cache, bus_in}
@@ -150,6 +150,11 @@ module _ {g : Geometry} {s : State} {cache₀ di out₀ cache out : List ℕ} {x
       → Along g s cache₀ di out₀ cache' (set out i v) x' (i + 1)
   unfolding shifts answer
   along_bus busy x' cache' v l k y p q e = along_one x' cache' v l k (λ m. rw (p, q, y)) (sym e)
+
+  -- while chip select is high nothing is heard, and the answer is FFh
+  pub along_unheard : heard x ≡ false → i < length di → Along g s cache₀ di out₀ cache (set out i 0xFF) x (i + 1)
+  unfolding shifted_in cached
+  along_unheard q l = along_bus (oip s.regs.c0) x cache 0xFF l refl refl (rw q refl) (rw q refl) (rw q refl)
 
   -- all of them
   pub along_all : length di ≤ i → Exchanged g s cache₀ di out₀ (bus_in x s) cache out

@@ -59,7 +59,7 @@ fn streamed(g: Geometry, s: State, di: &[u8], cache: &mut [u8], out: &mut [u8]) 
     }
 }
 
-// Bytes in on DI and out on DO: one after another, and once they are a stream all that are left. Only the bus and the cache register
+// Bytes in on DI and out on DO: none heard while chip select is high, else one after another, and once they are a stream all that are left. Only the bus and the cache register
 // change, and the rest of the state stays aside.
 fn exchanged(g: Geometry, s: State, di: &[u8], cache: &mut [u8], out: &mut [u8]) -> State
     requires { length di.now ≤ length out.old }
@@ -69,6 +69,10 @@ fn exchanged(g: Geometry, s: State, di: &[u8], cache: &mut [u8], out: &mut [u8])
     let busy = registers::oip(r.c0);
     let mut x = s.bus;
     for i in 0..di.len() {
+        if !x.heard() {
+            out[i] = 0xFFu8;
+            continue;
+        }
         if stream::streams(x) {
             return streamed(g, State { bus: x, ..s }, &di[i..], cache, &mut out[i..]);
         }

@@ -3,7 +3,7 @@
 
 ghost use Rattle.std.specs.Prelude.{◌≡◌, ◌<◌};
 ghost use Rattle.keeper.specs.Keeper.{queue_sound, keeper_sound, new_keeper, queue_at, put_of, front_of, rest_of};
-ghost use Rattle.keeper.specs.Keeper.{number_of, added, add_of, whose_turn, granted, grant_of};
+ghost use Rattle.keeper.specs.Keeper.{number_of, number_in, added, add_of, whose_turn, granted, grant_of};
 
 // The transfers of one core that wait: `length` tags from place `head` on, round from place 7 to 0. The other places mean nothing.
 // A length beside its places, for C's `sleet_queue` has these three fields.
@@ -62,6 +62,16 @@ pub fn number_of(r: Refused) -> u8
         Refused::QueueFull => 15,
         Refused::AllEmpty => 16,
         Refused::BadKeeper => 20,
+    }
+}
+
+// The number of an answer: 0 where nothing is refused.
+pub fn number_in<T: Drop>(answer: Result<T, Refused>) -> u8
+    ensures { result ≡ number_in answer }
+{
+    match answer {
+        Ok(_) => 0,
+        Err(why) => number_of(why),
     }
 }
 

@@ -40,10 +40,7 @@ pub fn sleet_keeper_add(keeper: Keeper, core: u8, tag: u8) -> CAdded
     let Added { keeper, answer } = keeper.add(core, tag);
     CAdded {
         keeper,
-        refusal: match answer {
-            Ok(()) => 0,
-            Err(why) => keeper::number_of(why),
-        },
+        refusal: keeper::number_in(answer),
     }
 }
 

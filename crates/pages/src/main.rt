@@ -3,14 +3,15 @@
 // is written.
 #![tactic(auto)]
 
+use console::Output;
 use copies::{Found, ReadError};
 use digits::Awaited;
 use part::{Fm25s005bi3, Geometry};
 use std::io;
-use std::io::{Read, Write};
+use std::io::Write;
 
 // The most bytes of input that are read.
-const INPUT: u64 = 16384;
+const INPUT: usize = 16384;
 
 // The bytes of memory.
 const MEMORY: usize = 1024;
@@ -213,10 +214,11 @@ impl Table {
     }
 }
 
-fn main(rt: HostRuntime) -> io::Result<()> {
-    let mut input = Vec::new(rt.alloc());
-    rt.reader().take(INPUT).read_to_end(&mut input)?;
-    let mut to = io::writer(&rt);
+// The input is on the stack: a program that needs no heap cannot run out of it. `to` passes over a write that fails, and no status says so.
+fn main(rt: HostRuntime) {
+    let mut input = [0; INPUT];
+    let length = console::read_full(&mut rt.reader(), &mut input);
+    let mut to = Output::new(io::writer(&rt));
     let mut table = Table {
         memory: [0; MEMORY],
         part: Part::Name,
@@ -224,8 +226,8 @@ fn main(rt: HostRuntime) -> io::Result<()> {
         geometry: Fm25s005bi3::geometry(),
         lent: MEMORY,
     };
-    for letter in input.iter() {
-        table.letter(&mut to, *letter)?;
+    for letter in &input[..length] {
+        let _told = table.letter(&mut to, *letter).is_ok();
     }
-    Ok(())
+    let _told = to.flush().is_ok();
 }

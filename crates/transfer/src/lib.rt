@@ -174,7 +174,7 @@ impl Bus {
         self.transfer.selected
     }
 
-    // One byte shifted in.
+    // One byte shifted in. (Each way has its own end: where nothing is heard the library then keeps no register for the others.)
     #[tactic(auto, unfolding(crate::specs::Transfer::shifted_in))]
     pub fn shifted_in(self, g: Geometry, busy: bool, b: u8) -> Bus
         ensures { result ≡ shifted_in g busy b self }
@@ -183,12 +183,16 @@ impl Bus {
             return self;
         }
         let t = self.transfer;
-        let transfer = if t.count == 0 {
-            t.instructed(busy, b)
-        } else {
-            t.later(g, b)
-        };
-        Bus { transfer, ..self }
+        if t.count == 0 {
+            return Bus {
+                transfer: t.instructed(busy, b),
+                ..self
+            };
+        }
+        Bus {
+            transfer: t.later(g, b),
+            ..self
+        }
     }
 
     // Whether a byte shifted now comes after the instruction, and is heard.

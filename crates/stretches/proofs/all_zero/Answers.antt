@@ -1,11 +1,13 @@
--- `all_zero`: each byte is 0 exactly where their sum is.
-use Rattle.std.proofs.Common.{rules, ◌≡◌, ℕ, ◌<◌, length, get_or}
-use Rattle.std.specs.Prelude.{◌↔◌, IsTrue}
-use Rattle.stretches.proofs.Zeros.{sum_none}
+-- `all_zero`: at byte i, what was seen is 0 exactly where the sum so far is.
+use native.Mathlib.Omega.{arith}
+use Rattle.stretches.proofs.Zeros.{seen_none, seen_more, seen_all}
 use Rattle.stretches.proofs.all_zero.Goals as goal
 
+pub loop-b-init : goal.loop-b-init
+loop-b-init c = seen_none
+
+pub loop-b-preserved : goal.loop-b-preserved
+loop-b-preserved c = seen_more c.loop-b.invariant (omega arith)
+
 pub returns : goal.returns
-returns c =
-    let bs = c.args.bytes.now in
-    let h : IsTrue c.all.result ↔ ((k : ℕ) → k < length bs → get_or bs k 0 ≡ 0) = search rules in
-    sum_none bs c.all.result h
+returns c = seen_all c.loop-b.invariant (omega arith)

@@ -1,0 +1,80 @@
+// What the programs share: they read their input into memory of a fixed size, and print line by line. Neither needs a heap. A read that fails
+// ends the input, and a write that fails is passed over, so that a program always does all that its input asks, and ends with status 0.
+#![tactic(auto)]
+
+ghost use Rattle.std.specs.Prelude.{◌≡◌, ◌≤◌, length, replicate, take};
+ghost use Rattle.std.specs.Io.KnownBytes.{Consumes};
+
+use std::io;
+use std::io::{Read, Write};
+
+// The most bytes that wait for the end of their line.
+const ROOM: usize = 512;
+
+// Fills the room from a reader, until it is full, the input ends or a read fails, and says how many bytes came.
+pub fn read_full<R: Read>(from: &mut R, room: &mut [u8]) -> usize
+    ensures within { result ≤ length room.new }
+    ensures bytes { Consumes (R.remaining from.old) (R.remaining from.new) (take result room.new) }
+{
+    let mut count = 0;
+    for _ in 0..room.len() {
+        match from.read(&mut room[count..]) {
+            Ok(0) | Err(_) => return count,
+            Ok(n) => count += n,
+        }
+    }
+    count
+}
+
+// An output that goes out line by line.
+#[derive(Drop)]
+pub struct Output<W> {
+    to: W,
+    waiting: [u8; ROOM],
+    count: usize,
+}
+
+impl<W: Write + Drop> Output<W> {
+    // Nothing waits.
+    pub fn new(to: W) -> Output<W>
+        ensures { result ≡ record { to = to; waiting = replicate 512 0; count = 0 } }
+    {
+        Output {
+            to,
+            waiting: [0; ROOM],
+            count: 0,
+        }
+    }
+
+    // What waits goes out.
+    fn send(&mut self) {
+        match self.to.write_all(&self.waiting[..self.count.min(ROOM)]) {
+            Ok(()) | Err(_) => self.count = 0,
+        }
+    }
+
+    // One byte more waits, until its line is whole or there is no more room.
+    fn put(&mut self, byte: u8) {
+        if let Some(place) = self.waiting.get_mut(self.count) {
+            *place = byte;
+            self.count += 1;
+        }
+        if byte == b'\n' || self.count == ROOM {
+            self.send();
+        }
+    }
+}
+
+impl<W: Write + Drop> Write for Output<W> {
+    fn write(&mut self, buf: &[u8]) -> io::Result<usize> {
+        for byte in buf {
+            self.put(*byte);
+        }
+        Ok(buf.len())
+    }
+
+    fn flush(&mut self) -> io::Result<()> {
+        self.send();
+        Ok(())
+    }
+}
