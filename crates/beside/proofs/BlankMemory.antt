@@ -20,7 +20,7 @@ use Rattle.refusals.proofs.Checked.{never_done}
 use Rattle.refusals.specs.declared.Refusal.{Refusal}
 use Rattle.refusals.specs.declared.Refusal.TheVariants.{Done, BadPart, BadCells, BadCache, BadCounts, BadState}
 use Rattle.beside.specs.Beside.{blank_end, blank_check, blank_after, blank_of}
-use Rattle.beside.specs.Promises.{BlankExactly, BlankReady}
+use Rattle.beside.specs.Promises.{BlankExactly, BlankNeverDone, BlankReady}
 use Rattle.beside.proofs.Asked.{part_sound}
 
 -- ---- what the code has, case by case
@@ -65,6 +65,16 @@ blank_exactly g cells cache counts =
     go true true false d = refl
     go true true true false = refl
     go true true true true = refl
+
+pub blank_never_done : BlankNeverDone
+unfolding blank_of
+blank_never_done g cells cache counts r = go (blank_check g cells cache counts) refl
+  where
+    go : (x : Result Unit Refusal) → blank_check g cells cache counts ≡ x → (blank_after x cells cache counts).answer ≡ Err r → passed r ≡ false
+    go (Ok u) p h = absurd (let z : ⊥ = cc in z)
+    go (Err k) p h =
+        let q : k ≡ r = cc in
+        rw q at (never_done g power_up (length cells) (length cache) (length counts) k p)
 
 -- ---- a run on it
 

@@ -19,10 +19,11 @@ use Rattle.device.specs.declared.State.{State}
 use Rattle.refusals.specs.Refusals.{number_of, check_of, line_of, passed, checked_as}
 use Rattle.refusals.specs.declared.Refusal.{Refusal}
 use Rattle.refusals.specs.declared.Refusal.TheVariants.{BadPart, BadCells, BadCache, BadCounts, BadState}
+use Rattle.refusals.proofs.Checked.{never_done}
 use Rattle.model.specs.Runs.{Outcome, bytes_out, run_of}
 use Rattle.model.proofs.Single.{single_done}
 use Rattle.beside.specs.Beside.{byte_after, peek_check, peek_of}
-use Rattle.beside.specs.Promises.{PeekExactly, NextByte}
+use Rattle.beside.specs.Promises.{PeekExactly, PeekNeverDone, NextByte}
 
 -- ---- what the code has, case by case
 
@@ -57,6 +58,16 @@ peek_exactly g s cache = rw (peek_checks g s cache) (go (sound_part g) (eqb (len
     go true false c = refl
     go true true false = refl
     go true true true = refl
+
+pub peek_never_done : PeekNeverDone
+unfolding peek_of
+peek_never_done g s cache r = go (peek_check g s cache) refl
+  where
+    go : (x : Result Unit Refusal) → peek_check g s cache ≡ x → byte_after x (answer g s cache) ≡ Err r → passed r ≡ false
+    go (Ok u) p h = absurd (let z : ⊥ = cc in z)
+    go (Err k) p h =
+        let q : k ≡ r = cc in
+        rw q at (never_done g s (rows g * page g) (length cache) (rows g) k p)
 
 -- ---- the byte
 

@@ -1,6 +1,6 @@
 -- What is promised beside a run: the next byte is the one that comes, the units left say when the array is ready, work adds up, and blank
 -- memory is ready for a run.
-use Rattle.std.specs.Prelude.{Ok, true, not, List, [], ◌∷◌, ◌≡◌, ℕ, suc, ◌+◌, ◌-◌, ◌*◌, eqb, ltb, length, if◌then◌else◌}
+use Rattle.std.specs.Prelude.{Ok, Err, true, false, not, List, [], ◌∷◌, ◌≡◌, ℕ, suc, ◌+◌, ◌-◌, ◌*◌, eqb, ltb, length, if◌then◌else◌}
 use Rattle.part.specs.Part.{page, rows, sound_part}
 use Rattle.part.specs.declared.Geometry.{Geometry}
 use Rattle.buslog.specs.Log.{bytes_of, written}
@@ -13,6 +13,7 @@ use Rattle.device.specs.Step.{power_up}
 use Rattle.device.specs.Sound.{sound_state}
 use Rattle.device.specs.declared.State.{State}
 use Rattle.refusals.specs.Refusals.{number_of, line_of, passed, checked_as}
+use Rattle.refusals.specs.declared.Refusal.{Refusal}
 use Rattle.refusals.specs.declared.Refusal.TheVariants.{Done}
 use Rattle.model.specs.Runs.{run_of}
 use Rattle.beside.specs.Beside.{peek_of, units_left, work_of, blank_of}
@@ -28,6 +29,10 @@ PeekExactly =
     else if not (eqb (length cache) (page g)) then 3
     else if not (sound_state g s) then 5
     else 0)
+
+-- what is refused is never refused with line 0: 0 is told where a byte is, and nowhere else
+abbrev pub PeekNeverDone : Type 0
+PeekNeverDone = (g : Geometry) (s : State) (cache : List ℕ) (r : Refusal) → peek_of g s cache ≡ Err r → passed r ≡ false
 
 -- where a run is not refused a byte is told; whatever byte is shifted in next, the byte that the run then puts out is that one
 abbrev pub NextByte : Type 0
@@ -81,6 +86,10 @@ BlankExactly =
     else if not (eqb (length cache) (page g)) then 3
     else if not (eqb (length counts) (rows g)) then 4
     else 0)
+
+-- never with line 0: 0 is told where the memory is blank, and nowhere else
+abbrev pub BlankNeverDone : Type 0
+BlankNeverDone = (g : Geometry) (cells cache counts : List ℕ) (r : Refusal) → (blank_of g cells cache counts).answer ≡ Err r → passed r ≡ false
 
 -- and a run from power-up on it is not refused
 abbrev pub BlankReady : Type 0
