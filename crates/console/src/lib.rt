@@ -1,5 +1,6 @@
-// What the programs share: they read their input into memory of a fixed size, and print line by line. Neither needs a heap. A read that fails
-// ends the input, and a write that fails is passed over, so that a program always does all that its input asks, and ends with status 0.
+// What the programs share: they read their input into memory of a fixed size, and print line by line. Neither needs a heap. A read that
+// fails ends the input, and a write that fails is passed over, so that a program always does all that its input asks, and ends with
+// status 0.
 #![tactic(auto)]
 
 ghost use Rattle.std.specs.Prelude.{◌≡◌, ◌≤◌, length, replicate, take};
@@ -26,6 +27,24 @@ pub fn read_full<R: Read>(from: &mut R, room: &mut [u8]) -> usize
     count
 }
 
+// Bytes go out: all at once, and once that fails one by one. A byte that cannot go is passed over.
+fn send_all<W: Write>(to: &mut W, bytes: &[u8]) {
+    let mut sent = 0;
+    let mut most = bytes.len();
+    for _ in 0..=bytes.len() {
+        let rest = &bytes[sent.min(bytes.len())..];
+        let part = &rest[..most.min(rest.len())];
+        if part.is_empty() {
+            return;
+        }
+        match to.write(part) {
+            Ok(n) if 0 < n => sent += n,
+            _ if 1 < most => most = 1,
+            _ => sent += 1,
+        }
+    }
+}
+
 // An output that goes out line by line.
 #[derive(Drop)]
 pub struct Output<W> {
@@ -48,9 +67,8 @@ impl<W: Write + Drop> Output<W> {
 
     // What waits goes out.
     fn send(&mut self) {
-        match self.to.write_all(&self.waiting[..self.count.min(ROOM)]) {
-            Ok(()) | Err(_) => self.count = 0,
-        }
+        send_all(&mut self.to, &self.waiting[..self.count.min(ROOM)]);
+        self.count = 0;
     }
 
     // One byte more waits, until its line is whole or there is no more room.

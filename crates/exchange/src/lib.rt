@@ -59,8 +59,8 @@ fn streamed(g: Geometry, s: State, di: &[u8], cache: &mut [u8], out: &mut [u8]) 
     }
 }
 
-// Bytes in on DI and out on DO: none heard while chip select is high, else one after another, and once they are a stream all that are left. Only the bus and the cache register
-// change, and the rest of the state stays aside.
+// Bytes in on DI and out on DO: none is heard while chip select is high; else one after another, and once they are a stream all that are
+// left. Only the bus and the cache register change, and the rest of the state stays aside.
 fn exchanged(g: Geometry, s: State, di: &[u8], cache: &mut [u8], out: &mut [u8]) -> State
     requires { length di.now ≤ length out.old }
     ensures { Exchanged g s cache.old di.now out.old result cache.new out.new }
