@@ -3,8 +3,8 @@
 // status 0.
 #![tactic(auto)]
 
-ghost use Rattle.std.specs.Prelude.{◌≡◌, ◌≤◌, length, replicate, take};
-ghost use Rattle.std.specs.Io.KnownBytes.{Consumes};
+ghost use Rattle.std.specs.Prelude.{◌≡◌, ◌≤◌, ◌<◌, length, replicate, take, IfOk, IfErr};
+ghost use Rattle.std.specs.Io.KnownBytes.{Consumes, IsAtEnd};
 
 use std::io;
 use std::io::{Read, Write};
@@ -12,19 +12,24 @@ use std::io::{Read, Write};
 // The most bytes that wait for the end of their line.
 const ROOM: usize = 512;
 
-// Fills the room from a reader, until it is full, the input ends or a read fails, and says how many bytes came.
-pub fn read_full<R: Read>(from: &mut R, room: &mut [u8]) -> usize
-    ensures within { result ≤ length room.new }
-    ensures bytes { Consumes (R.remaining from.old) (R.remaining from.new) (take result room.new) }
+// Fills the room from a reader, and says how many bytes came: all that there is room for, or all that the reader had; as an error those
+// that had come when a read failed.
+pub fn read_full<R: Read>(from: &mut R, room: &mut [u8]) -> Result<usize, usize>
+    ensures filled { IfOk result (λ n. (n ≤ length room.new) × Consumes (R.remaining from.old) (R.remaining from.new) (take n room.new) × (n < length room.new → IsAtEnd (R.remaining from.new))) }
+    ensures failed { IfErr result (λ n. (n < length room.new) × Consumes (R.remaining from.old) (R.remaining from.new) (take n room.new)) }
 {
     let mut count = 0;
     for _ in 0..room.len() {
+        if count == room.len() {
+            return Ok(count);
+        }
         match from.read(&mut room[count..]) {
-            Ok(0) | Err(_) => return count,
+            Ok(0) => return Ok(count),
             Ok(n) => count += n,
+            Err(_) => return Err(count),
         }
     }
-    count
+    Ok(count)
 }
 
 // Bytes go out: all at once, and once that fails one by one. A byte that cannot go is passed over.

@@ -79,10 +79,11 @@ fn replay(to: &mut impl Write, device: &mut Device, log: &[u8]) -> io::Result<()
     }
 }
 
-// The input is on the stack: a program that needs no heap cannot run out of it. `to` passes over a write that fails, and no status says so.
+// The input is on the stack: a program that needs no heap cannot run out of it. A read that fails ends the input, `to` passes over a write
+// that fails, and no status says so.
 fn main(rt: HostRuntime) {
     let mut input = [0; LOG];
-    let length = console::read_full(&mut rt.reader(), &mut input);
+    let (Ok(length) | Err(length)) = console::read_full(&mut rt.reader(), &mut input);
     let mut device = Device {
         state: State::power_up(),
         cells: [0xFF; 640],

@@ -175,10 +175,11 @@ impl Table {
     }
 }
 
-// The input is on the stack: a program that needs no heap cannot run out of it. `to` passes over a write that fails, and no status says so.
+// The input is on the stack: a program that needs no heap cannot run out of it. A read that fails ends the input, `to` passes over a write
+// that fails, and no status says so.
 fn main(rt: HostRuntime) {
     let mut input = [0; INPUT];
-    let length = console::read_full(&mut rt.reader(), &mut input);
+    let (Ok(length) | Err(length)) = console::read_full(&mut rt.reader(), &mut input);
     let mut to = Output::new(io::writer(&rt));
     let mut table = Table::fresh(Part::Name);
     for letter in &input[..length] {

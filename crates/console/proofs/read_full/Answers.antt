@@ -17,4 +17,4 @@ loop-preserved g c =
     let l = c.loop in
     let front = take l.count l.room in
     let grown = behind l.count c.in-Ok.n front c.read.new.buf (post_of l.count (length l.room - l.count) l.room) (length-take-le l.count l.room l.invariant.1) c.in-Ok.ensures.bound.0 in
-    (search rules, search rules, subst (Consumes _ _) grown (Consumes-trans _ _ _ _ _ l.invariant.2 c.in-Ok.ensures.bytes.0))
+    (search rules, search rules, search rules, subst (Consumes _ _) grown (Consumes-trans _ _ _ _ _ l.invariant.3 c.in-Ok.ensures.bytes.0))

@@ -4,4 +4,4 @@ use Rattle.std.specs.Io.KnownBytes.{Consumes}
 use Rattle.console.proofs.read_full.Given as goal
 
 abbrev pub invariant-loop : goal.invariant-loop
-invariant-loop g l = (length l.room ≡ length l.initial.room) × (l.count ≤ length l.room) × Consumes (g.R.Read.remaining l.initial.from) (g.R.Read.remaining l.from) (take l.count l.room)
+invariant-loop g l = (length l.room ≡ length l.initial.room) × (l.count ≤ length l.room) × (l.counter ≤ l.count) × Consumes (g.R.Read.remaining l.initial.from) (g.R.Read.remaining l.from) (take l.count l.room)

@@ -16,6 +16,8 @@ const POLL: [u8; 3] = [0x0F, 0xC0, 0x00];
 pub fn compare(geometry: &Geometry, buffers: &mut Buffers) {
     let page = geometry.cache_len();
     let load_in = load(0x84, &vec![0x5A; page]);
+    let ignored = vec![0x00; page];
+    let register = [&POLL[..2], &vec![0; page - 2][..]].concat();
     let mut naive = naive(geometry);
 
     let times = events(geometry, buffers, &mut naive);
@@ -31,11 +33,21 @@ pub fn compare(geometry: &Geometry, buffers: &mut Buffers) {
             &read_out(TIMES_ROUND * page),
         ),
         ("one transfer per call, a page loaded", &load_in),
+        ("one transfer per call, a page ignored", &ignored),
+        (
+            "one transfer per call, a register read for a page",
+            &register,
+        ),
     ] {
         check_transfer(geometry, buffers, &mut naive, di);
         let times = transfers(geometry, buffers, &mut naive, di);
         println!("{}", times.row(name, "transfer", 1));
     }
+    let times = unheard(geometry, buffers, &mut naive, &ignored);
+    println!(
+        "{}",
+        times.row("one piece per call, a page, the chip not selected", "piece", 1)
+    );
     let mixed = mixed(geometry);
     let times = judgement(geometry, buffers, &mixed);
     println!(
@@ -128,6 +140,38 @@ fn transfers(geometry: &Geometry, buffers: &mut Buffers, naive: &mut Naive, di: 
     with_naive(times)
 }
 
+/// One piece of a transfer while the chip is not selected. Each answers FFh alone.
+fn unheard(geometry: &Geometry, buffers: &mut Buffers, naive: &mut Naive, di: &[u8]) -> Times {
+    let (mut first, mut second) = (idle(), idle());
+    buffers.out[..di.len()].fill(0);
+    let (mut memory, out) = buffers.lent();
+    let library = raw::shifts(*geometry, first, di, &mut memory, out);
+    assert_eq!((library.refusal, library.written), (0, di.len()));
+    assert!(out[..di.len()].iter().all(|byte| *byte == 0xFF));
+    buffers.out[..di.len()].fill(0);
+    assert_eq!(library, piece_by_value(*geometry, second, di, buffers));
+    assert!(buffers.out[..di.len()].iter().all(|byte| *byte == 0xFF));
+    let times = best(
+        [
+            Box::new(|buffers| {
+                let (mut memory, out) = buffers.lent();
+                first = raw::shifts(*geometry, first, black_box(di), &mut memory, out).state;
+            }),
+            Box::new(|buffers| {
+                second = piece_by_value(*geometry, second, black_box(di), buffers).state;
+            }),
+            Box::new(|buffers| {
+                for (byte, answer) in black_box(di).iter().zip(&mut buffers.out) {
+                    *answer = naive.shift(*byte);
+                }
+            }),
+        ],
+        buffers,
+    );
+    assert_eq!(first, second);
+    with_naive(times)
+}
+
 /// A log judged.
 fn judgement(geometry: &Geometry, buffers: &mut Buffers, task: &Task) -> Times {
     let (log, state) = (&task.log, task.states[0]);
@@ -197,6 +241,13 @@ fn event_by_value(part: Geometry, state: State, log: &[u8], buffers: &mut Buffer
 fn transfer_by_value(part: Geometry, state: State, di: &[u8], buffers: &mut Buffers) -> RawAnswer {
     let (memory, out) = buffers.lent_to_paper();
     raw_answer(paper::transfer(&part.into(), state.into(), di, memory, out))
+}
+
+/// The same on a piece of a transfer.
+#[inline(never)]
+fn piece_by_value(part: Geometry, state: State, di: &[u8], buffers: &mut Buffers) -> RawAnswer {
+    let (memory, out) = buffers.lent_to_paper();
+    raw_answer(paper::shifts(&part.into(), state.into(), di, memory, out))
 }
 
 fn raw_answer(answer: paper::Answer) -> RawAnswer {
