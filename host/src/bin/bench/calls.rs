@@ -46,7 +46,11 @@ pub fn compare(geometry: &Geometry, buffers: &mut Buffers) {
     let times = unheard(geometry, buffers, &mut naive, &ignored);
     println!(
         "{}",
-        times.row("one piece per call, a page, the chip not selected", "piece", 1)
+        times.row(
+            "one piece per call, a page, the chip not selected",
+            "piece",
+            1
+        )
     );
     let mixed = mixed(geometry);
     let times = judgement(geometry, buffers, &mixed);
